@@ -1,0 +1,3 @@
+pub mod Atom
+pub mod Literal
+pub mod Names
