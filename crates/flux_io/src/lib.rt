@@ -2,6 +2,7 @@
 #![tactic(auto)]
 
 mod calls;
+mod files;
 mod folder;
 mod memory;
 mod real;
