@@ -1,0 +1,6 @@
+pub use Rattle.flux_trees.specs.Hedge
+pub use Rattle.flux_trees.specs.HedgeCode
+pub use Rattle.flux_trees.specs.Draft
+pub mod Flat
+pub mod View
+pub mod Heads
