@@ -1,5 +1,5 @@
 -- Lists of named files, as a program makes them.
-use Rattle.std.specs.Prelude.{ℕ, List, [], map, Option, String, string_bytes, Vec, slice_get}
+use Rattle.std.specs.Prelude.{ℕ, List, [], map, String, string_bytes, Vec, slice_get}
 use Rattle.std.specs.Option.{option_map_or}
 use Rattle.std.specs.declared.alloc.Global.{Global}
 

@@ -5,11 +5,9 @@ ghost use Rattle.flux_io.specs.Files.{listed, bytes_at};
 
 // Where the first file of that name stands.
 pub fn find(files: &[(String, Vec<u8>)], name: &str) -> Option<usize>
-    ensures {
-        MatchOption result
-            (entry (listed files.now) name.now ≡ None)
-            (λ index. entry (listed files.now) name.now ≡ Some (bytes_at files.now index))
-    }
+    ensures { MatchOption result
+        (entry (listed files.now) name.now ≡ None)
+        (λ index. entry (listed files.now) name.now ≡ Some (bytes_at files.now index)) }
 {
     for (i, file) in files.iter().enumerate() {
         if file.0.as_str() == name {

@@ -1,4 +1,7 @@
 //! A folder of named files and a sink for bytes, in memory and over the system.
+//!
+//! The outside may fail at any call. Each failure counts as a fault, so that a caller can tell an
+//! answer that comes of one from an answer that the files alone decide.
 #![tactic(auto)]
 
 mod calls;
@@ -15,29 +18,4 @@ pub use real::{RealFolder, RealSink};
 pub use sink::Sink;
 
 #[cfg(test)]
-mod tests {
-    use super::*;
-    use std::fs;
-    use std::test::Fail;
-
-    #[test]
-    fn real_files_are_read(rt: HostRuntime) -> Result<(), Fail> {
-        let alloc = rt.alloc();
-        fs::write(&rt, "f", "abc")?;
-        let mut folder = RealFolder::new(&rt);
-        let bytes = read_all(alloc, &mut folder, "f", 3)?;
-        assert_eq!(rt; bytes.as_slice(), b"abc".as_slice());
-        assert!(rt; matches!(read_all(alloc, &mut folder, "f", 2), Err(Fault::TooLong)));
-        assert!(rt; matches!(read_all(alloc, &mut folder, "g", 3), Err(Fault::Read)));
-        Ok(())
-    }
-
-    #[test]
-    fn a_real_sink_writes(rt: HostRuntime) -> Result<(), Fail> {
-        let mut bytes = Vec::new(rt.alloc());
-        let mut sink = RealSink::new(&mut bytes);
-        write_all(&mut sink, b"abc")?;
-        assert_eq!(rt; bytes.as_slice(), b"abc".as_slice());
-        Ok(())
-    }
-}
+mod tests;

@@ -20,6 +20,12 @@ enum Place {
     Lost,
 }
 
+/// A folder in memory, which holds the files that it was made of and no others, and tells what it
+/// holds.
+///
+/// Its calls of `begin` and `read` are counted together from 1. Those whose numbers it was given
+/// fail, and these alone are faults: a missing name is refused, and counts as none. Of two files of
+/// one name the first counts. A `read` gives as many bytes as fit. It never runs out of memory.
 #[derive(Drop)]
 pub struct MemFolder {
     files: Vec<(String, Vec<u8>)>,
@@ -33,7 +39,7 @@ impl MemFolder {
     ghost use Rattle.flux_io.specs.declared.memory.Place.TheVariants.{Lost};
     ghost use Rattle.flux_io.specs.Memory.{files_of, fails_of, calls_of, faults_of, left_of, held_of, FailsNext, IsCall};
 
-    /// A folder of these files, whose calls of these numbers fail, counted from 1.
+    /// A folder of these files, by their names, whose calls of the numbers in `fails` fail.
     pub fn new(files: Vec<(String, Vec<u8>)>, fails: Vec<u64>) -> MemFolder
         ensures holds { ⟦<MemFolder as Folder>⟧.holds result ≡ Some (held_of result) }
         ensures left { ⟦<MemFolder as Folder>⟧.left result ≡ Some [] }
@@ -83,10 +89,8 @@ impl Folder for MemFolder {
     fn begin(&mut self, name: &str) -> Result<(), Refused>
         ensures begun { OnOk result (IsFileOf (left_of self.new) name.now (held_of self.old)) }
         ensures refused { OnErr result (left_of self.new ≡ None) }
-        ensures failed {
-            IsErrOf result Refused.Failed
-            ↔ (FailsNext self.old ⊎ Lacks (Some (held_of self.old)) name.now)
-        }
+        ensures failed { IsErrOf result Refused.Failed
+            ↔ (FailsNext self.old ⊎ Lacks (Some (held_of self.old)) name.now) }
         ensures only { IfErr result (λ e. e ≡ Refused.Failed) }
         ensures call { IsCall self.old self.new }
         ensures later { faults_of self.old ≤ faults_of self.new }
@@ -109,10 +113,8 @@ impl Folder for MemFolder {
         ensures exact { IfOk result (λ n. n ≡ min (length buf.old) (length (rest_of self.old))) }
         ensures bound { IfOk result (λ n. n ≤ length buf.new) }
         ensures end { IfOk result (λ n. IfSome (left_of self.old) (λ bytes. (n ≡ 0) ↔ (bytes ≡ []))) }
-        ensures taken {
-            IfOk result (λ n.
-                left_of self.old ≡ prepend_known (take n buf.new) (left_of self.new))
-        }
+        ensures taken { IfOk result (λ n.
+            left_of self.old ≡ prepend_known (take n buf.new) (left_of self.new)) }
         ensures refused { OnErr result (left_of self.new ≡ None) }
         ensures failed { IsErrOf result Refused.Failed ↔ FailsNext self.old }
         ensures only { IfErr result (λ e. e ≡ Refused.Failed) }
@@ -129,6 +131,10 @@ impl Folder for MemFolder {
     }
 }
 
+/// A sink in memory, which tells what it holds.
+///
+/// With a cap it takes bytes until it holds so many, of a longer write those that still fit. A write
+/// that begins at the cap fails, which is its only failure.
 #[derive(Drop)]
 pub struct MemSink {
     bytes: Vec<u8>,
@@ -139,7 +145,7 @@ pub struct MemSink {
 impl MemSink {
     ghost use Rattle.flux_io.specs.Memory.{bytes_of, cap_of};
 
-    /// An empty sink, which takes bytes until it holds `cap`.
+    /// An empty sink, with no end or of at most `cap` bytes.
     pub fn new(alloc: Global, cap: Option<u64>) -> MemSink
         ensures written { ⟦<MemSink as Sink>⟧.written result ≡ Some [] }
         ensures faults { ⟦<MemSink as Sink>⟧.faults result ≡ 0 }
@@ -180,15 +186,22 @@ impl Sink for MemSink {
 
     fn write(&mut self, bytes: &[u8]) -> Result<usize, Refused>
         requires { 0 < length bytes.now }
-        ensures exact { IfOk result (λ n. n ≡ taken_of (cap_of self.old) (length (bytes_of self.old)) (length bytes.now)) }
+        // As many bytes are taken as fit under the cap.
+        ensures exact { IfOk result (λ n.
+            n ≡ taken_of (cap_of self.old) (length (bytes_of self.old)) (length bytes.now)) }
         ensures some { IfOk result (λ n. 0 < n) }
+        ensures bound { IfOk result (λ n. n ≤ length bytes.now) }
         ensures taken { IfOk result (λ n. bytes_of self.new ≡ bytes_of self.old ++ take n bytes.now) }
         ensures refused { OnErr result (bytes_of self.new ≡ bytes_of self.old) }
-        ensures failed { IsErrOf result Refused.Failed ↔ AtCap (cap_of self.old) (length (bytes_of self.old)) }
-        ensures rose { IsErrOf result Refused.Failed → sink_faults_of self.new ≡ one_more (sink_faults_of self.old) }
-        ensures later { sink_faults_of self.old ≤ sink_faults_of self.new }
-        ensures stayed { IsErrOf result Refused.Failed ⊎ (sink_faults_of self.new ≡ sink_faults_of self.old) }
         ensures cap { cap_of self.new ≡ cap_of self.old }
+
+        // A failure comes at the cap, and is what counts as a fault.
+        ensures failed { IsErrOf result Refused.Failed ↔ AtCap (cap_of self.old) (length (bytes_of self.old)) }
+        ensures rose { IsErrOf result Refused.Failed
+            → sink_faults_of self.new ≡ one_more (sink_faults_of self.old) }
+        ensures stayed { IsErrOf result Refused.Failed
+            ⊎ (sink_faults_of self.new ≡ sink_faults_of self.old) }
+        ensures later { sink_faults_of self.old ≤ sink_faults_of self.new }
     {
         let n = room(self.cap, self.bytes.len(), bytes.len());
         if n == 0 {
