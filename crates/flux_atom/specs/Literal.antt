@@ -1,5 +1,5 @@
 -- The canonical text of an atom.
-use Rattle.std.specs.Prelude.{ℕ, ◌+◌, ◌/◌, ◌%◌, Bool, true, false, ◌||◌, ◌==◌, nat_lt, List, [], ◌∷◌, ◌++◌, codes, if◌then◌else◌}
+use Rattle.std.specs.Prelude.{ℕ, ◌+◌, ◌/◌, ◌%◌, Bool, true, false, ◌||◌, ◌==◌, nat_lt, List, [], ◌∷◌, ◌++◌, ◌<◌, All, codes, if◌then◌else◌}
 use Rattle.std.specs.List.{flat_map}
 use Rattle.flux_atom.specs.declared.atom.Atom.{Atom}
 use Rattle.flux_atom.specs.declared.atom.Atom.TheVariants.{Bool as Truth, Text}
@@ -42,3 +42,8 @@ abbrev pub literal : Atom → List ℕ
 literal (Truth true) = codes "true"
 literal (Truth false) = codes "false"
 literal (Text text) = quote ∷ (flat_map escaped text ++ quote ∷ [])
+
+-- a text is made of bytes
+abbrev pub IsOfBytes : Atom → Type 0
+IsOfBytes (Truth b) = Unit {0}
+IsOfBytes (Text text) = All (λ b. b < 256) text

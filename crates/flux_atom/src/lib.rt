@@ -15,3 +15,6 @@ pub use name::Name;
 pub use names::Names;
 pub use sqlite_items::{Boxed, Items};
 pub use word::Word;
+
+#[cfg(test)]
+mod tests;
