@@ -2,10 +2,16 @@
 #![tactic(auto)]
 
 mod atom;
+mod label;
+mod literal;
 mod name;
+mod names;
 mod word;
 
 pub use atom::{Atom, AtomKind, copy, kind};
+pub use label::{is_label, is_name};
+pub use literal::write_literal;
 pub use name::Name;
+pub use names::Names;
 pub use sqlite_items::{Boxed, Items};
 pub use word::Word;

@@ -6,7 +6,7 @@ use std::marker::Model;
 /// A name of a table of names. Contracts see its number, which is the place of its text in that
 /// table, counted from 0. It means nothing in another table.
 #[derive(Clone, Copy, Debug, PartialEq, Eq)]
-pub struct Name(u32);
+pub struct Name(pub(crate) u32);
 
 impl Model for Name {
     ghost Value = { ℕ };

@@ -1,0 +1,2 @@
+//! The text of documents.
+#![tactic(auto)]
