@@ -60,14 +60,14 @@ IsElement-size (leaf _ x r) e = absurd e
 flat-split : (h : Plain) → flat h ≡ flat (first h) ++ flat (others h)
 flat-split h = ap flat (sym (join-first h)) ∙ flat-join (first h) (others h)
 
-pub first_step : {h : Plain} {ns : List Node} (n : ℕ) → AreNodes h ns → n ≡ size (first h) → AreNodes (first h) (take n ns)
-first_step {h} n i e = record {
-  same = ap₂ take (e ∙ sym (length-flat (first h))) (i.same ∙ flat-split h) ∙ take-append_seam (flat (first h)) (flat (others h));
+pub first_step : {h : Plain} {ns ms : List Node} {n : ℕ} → AreNodes h ns → n ≡ size (first h) → ms ≡ take n ns → AreNodes (first h) ms
+first_step {h} i e front = record {
+  same = front ∙ ap₂ take (e ∙ sym (length-flat (first h))) (i.same ∙ flat-split h) ∙ take-append_seam (flat (first h)) (flat (others h));
 }
 
-pub others_step : {h : Plain} {ns : List Node} (n : ℕ) → AreNodes h ns → n ≡ size (first h) → AreNodes (others h) (drop n ns)
-others_step {h} n i e = record {
-  same = ap₂ drop (e ∙ sym (length-flat (first h))) (i.same ∙ flat-split h) ∙ drop-append_seam (flat (first h)) (flat (others h));
+pub others_step : {h : Plain} {ns ms : List Node} {n : ℕ} → AreNodes h ns → n ≡ size (first h) → ms ≡ drop n ns → AreNodes (others h) ms
+others_step {h} i e back = record {
+  same = back ∙ ap₂ drop (e ∙ sym (length-flat (first h))) (i.same ∙ flat-split h) ∙ drop-append_seam (flat (first h)) (flat (others h));
 }
 
 -- a slice from 1 on, as the goals write it

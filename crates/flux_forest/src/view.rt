@@ -14,7 +14,7 @@ pub struct View<'a> {
 }
 
 /// What a run is, if it is no more than one tree.
-#[derive(Drop)]
+#[derive(Clone, Copy, Debug)]
 pub enum Head<'a> {
     Nothing,
     Elem(Name),
@@ -24,7 +24,7 @@ pub enum Head<'a> {
 }
 
 /// The first node of a run.
-#[derive(Drop)]
+#[derive(Clone, Copy, Debug)]
 pub enum First<'a> {
     Nothing,
     Elem(Name),
@@ -97,8 +97,7 @@ impl<'a> View<'a> {
         ensures first { forest_of result.0 ≡ first (forest_of self.entry) }
         ensures others { forest_of result.1 ≡ others (forest_of self.entry) }
     {
-        let nodes = self.nodes;
-        let (first, others) = nodes.split_at(nodes[0].size);
+        let (first, others) = self.nodes.split_at(self.first_size());
         let first = View { nodes: first };
         let others = View { nodes: others };
         (first, others)

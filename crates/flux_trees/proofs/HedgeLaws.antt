@@ -1,6 +1,6 @@
 -- The laws of forests.
-use Rattle.std.proofs.Common.{◌≡◌, ◌+◌, ◌≤◌, ◌∷◌, ◌++◌, length, refl, ap, ap₂, ◌∙◌, sym, arith, append_assoc, suc, length-append}
-use Rattle.flux_trees.specs.Hedge.{Hedge, Plain, nil, elem, leaf, join, size, first, others, trees, opened, notes, erase}
+use Rattle.std.proofs.Common.{◌≡◌, ◌+◌, ◌<◌, ◌≤◌, ◌∷◌, ◌++◌, length, refl, ap, ap₂, ◌∙◌, sym, arith, append_assoc, suc, length-append}
+use Rattle.flux_trees.specs.Hedge.{Hedge, Plain, nil, elem, leaf, join, size, first, others, content, trees, opened, notes, erase}
 
 module _ {N : Type 0} where
   pub join-nil : (h : Hedge N) → join h nil ≡ h
@@ -23,6 +23,11 @@ module _ {N : Type 0} where
   join-first (elem n a c r) = refl
   join-first (leaf n x r) = refl
 
+  pub trees-first : (h : Hedge N) → (h ≡ nil → ⊥) → trees h ≡ first h ∷ trees (others h)
+  trees-first nil e = absurd (e refl)
+  trees-first (elem n a c r) e = refl
+  trees-first (leaf n x r) e = refl
+
   pub trees-join : (f g : Hedge N) → trees (join f g) ≡ trees f ++ trees g
   trees-join nil g = refl
   trees-join (elem n a c r) g = ap (λ t. elem n a c nil ∷ t) (trees-join r g)
@@ -42,6 +47,16 @@ module _ {N : Type 0} where
   size-first-le nil = omega arith
   size-first-le (elem n a c r) = omega arith
   size-first-le (leaf n x r) = omega arith
+
+  pub size-first : (h : Hedge N) → size (first h) + size (others h) ≡ size h
+  size-first nil = omega arith
+  size-first (elem n a c r) = omega arith
+  size-first (leaf n x r) = omega arith
+
+  pub size-content-lt : (h : Hedge N) → (h ≡ nil → ⊥) → size (content h) < size h
+  size-content-lt nil e = absurd (e refl)
+  size-content-lt (elem n a c r) e = omega arith
+  size-content-lt (leaf n x r) e = omega arith
 
   -- opening takes one node away
   pub size-opened : (h : Hedge N) → (h ≡ nil → ⊥) → size (opened h) + 1 ≡ size h
@@ -71,6 +86,9 @@ module _ {N : Type 0} where
   size-erase nil = refl
   size-erase (elem n a c r) = omega (arith, size-erase c, size-erase r)
   size-erase (leaf n x r) = omega (arith, size-erase r)
+
+-- what loops over a forest need, that they end
+pub ruleset walks = (size-opened, size-first, size-first-le, size-content-lt)
 
 -- a plain forest is its own erasure
 pub erase-plain : (h : Plain) → erase h ≡ h

@@ -4,7 +4,7 @@ use Rattle.flux_trees.specs.Draft.{end, depth}
 use Rattle.flux_forest.specs.Flat.{draft_of, IsDraft}
 use Rattle.flux_forest.proofs.Steps.{laid_out, end_step, last_lt, depth-length, draft_of-laid_out}
 use Rattle.flux_forest.proofs.forest.Forest.end_element.Goals as goal
-use Rattle.flux_forest.proofs.forest.Forest.end_element.Goals.{After-len, After-self-1}
+use Rattle.flux_forest.proofs.forest.Forest.end_element.Goals.{After-len}
 
 at_lt : (c : After-len) → c.in-Some.at < length c.self.inside.nodes.items
 at_lt c =
@@ -16,15 +16,13 @@ overflow_sub-len c = omega (arith, at_lt c)
 pub index_mut-requires : goal.index_mut-requires
 index_mut-requires c = omega (arith, at_lt (goal.at.index_mut-requires c).After-len)
 
-written : (c : After-self-1) → IsDraft (end (draft_of c.self.inside.nodes.items)) (set c.self.inside.nodes.items c.in-Some.at (record { item = c.index_mut.result.now.item; size = c.len.result - c.in-Some.at })) c.pop.new.self.items
-written c =
-    end_step c.self.invariant (omega (arith, ap depth c.self.view_is)) c.in-Some.at c.len.result c.index_mut.result.now c.in-Some.ensures.items (omega arith) c.index_mut.ensures.value
-
 pub invariant_of-self : goal.invariant_of-self
-invariant_of-self c = laid_out (written c)
+invariant_of-self c =
+    laid_out (end_step c.self.invariant (omega (arith, ap depth c.self.view_is)) c.in-Some.at c.len.result c.index_mut.result.now c.in-Some.ensures.items (omega arith) c.index_mut.ensures.value)
 
 pub returns-in-Some : goal.returns-in-Some
-returns-in-Some c = draft_of-laid_out (written c) ∙ ap end c.self.view_is
+returns-in-Some c =
+    draft_of-laid_out (end_step c.self.invariant (omega (arith, ap depth c.self.view_is)) c.in-Some.at c.len.result c.index_mut.result.now c.in-Some.ensures.items (omega arith) c.index_mut.ensures.value) ∙ ap end c.self.view_is
 
 pub returns-in_default : goal.returns-in_default
 returns-in_default c =
