@@ -1,3 +1,3 @@
-mod Fronts
 pub mod LiteralLaws
+mod Runs
 mod Tables

@@ -56,7 +56,7 @@ unescape-code b r small = by (nat_lt b 16) refl
         rw (e, hex_digit-brace (b % 16) low, hex_value-hex_digit (b / 16) high, hex_value-hex_digit (b % 16) low) (ap (λ n. (n, r)) (omega arith))
 
 -- a byte with no escape of its own but a code's
-escaped-other : (b : ℕ) → b ≢ quote → b ≢ backslash → b ≢ newline → b ≢ tab → escaped b ≡ (if is_control b then codes "\\u{" ++ hex_digits b ++ codes "}" else b ∷ [])
+pub escaped-other : (b : ℕ) → b ≢ quote → b ≢ backslash → b ≢ newline → b ≢ tab → escaped b ≡ (if is_control b then codes "\\u{" ++ hex_digits b ++ codes "}" else b ∷ [])
 escaped-other b p q u v = rw (ne_eqb b quote p, ne_eqb b backslash q, ne_eqb b newline u, ne_eqb b tab v) refl
 
 -- an escaped byte is read back

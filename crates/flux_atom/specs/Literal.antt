@@ -37,6 +37,10 @@ escaped b =
     if b == tab then backslash ∷ 116 ∷ [] else
     if is_control b then codes "\\u{" ++ hex_digits b ++ codes "}" else b ∷ []
 
+-- the bytes that a canonical string does not have as they are
+abbrev pub has_escape : ℕ → Bool
+has_escape b = b == quote || (b == backslash || is_control b)
+
 -- the canonical literal: a truth value's word, or the escaped text between quotes
 abbrev pub literal : Atom → List ℕ
 literal (Truth true) = codes "true"

@@ -2,10 +2,10 @@
 use Rattle.std.proofs.Common.{◌≡◌, ℕ, ◌-◌, ◌<◌, ◌≤◌, suc, List, ◌++◌, length, take, drop, refl, ap, ap₂, ◌∙◌, sym, arith}
 use Rattle.std.proofs.Math.Seq.{take-append_seam, drop-append_seam, take-length}
 use Rattle.std.proofs.Math.ListN.{get_or}
-use Rattle.std.proofs.lemmas.List.{append-nil, length-drop}
+use Rattle.std.proofs.lemmas.List.{length-drop}
 use Rattle.flux_trees.specs.Hedge.{Plain, nil, elem, leaf, size, first, others, content, opened, trees, IsElement}
 use Rattle.flux_trees.specs.Draft.{depth, outer}
-use Rattle.flux_trees.proofs.HedgeLaws.{join-first}
+use Rattle.flux_trees.proofs.HedgeLaws.{join-first, join-nil}
 use Rattle.flux_trees.proofs.DraftLaws.{whole_is, IsWhole-depth}
 use Rattle.flux_atom.specs.declared.atom.Atom.{Atom}
 use Rattle.flux_forest.specs.declared.node.Item.TheVariants.{Element, Leaf}
@@ -40,22 +40,18 @@ size-zero nil e = refl
 size-zero (elem _ a c r) e = absurd (omega (arith, e))
 size-zero (leaf _ x r) e = absurd (omega (arith, e))
 
-content_nodes : (h : Plain) → IsElement h → drop 1 (flat h) ≡ flat (content h)
-content_nodes nil e = absurd e
-content_nodes (elem _ a c nil) e = append-nil (flat c)
-content_nodes (elem _ a c (elem _ b d r)) e = absurd e
-content_nodes (elem _ a c (leaf _ x r)) e = absurd e
-content_nodes (leaf _ x r) e = absurd e
+pub IsElement-not_nil : (h : Plain) → IsElement h → h ≡ nil → ⊥
+IsElement-not_nil nil e = absurd e
+IsElement-not_nil (elem _ a c r) e = λ n. cc
+IsElement-not_nil (leaf _ x r) e = absurd e
 
-pub content_step : {h : Plain} {ns : List Node} → AreNodes h ns → IsElement h → AreNodes (content h) (drop 1 ns)
-content_step {h} i e = record { same = ap (drop 1) i.same ∙ content_nodes h e }
-
-pub IsElement-size : (h : Plain) → IsElement h → 1 ≤ size h
-IsElement-size nil e = absurd e
-IsElement-size (elem _ a c nil) e = omega arith
-IsElement-size (elem _ a c (elem _ b d r)) e = omega arith
-IsElement-size (elem _ a c (leaf _ x r)) e = omega arith
-IsElement-size (leaf _ x r) e = absurd e
+-- an element has no tree behind it that would stand behind its content
+pub opened-element : (h : Plain) → IsElement h → opened h ≡ content h
+opened-element nil e = absurd e
+opened-element (elem _ a c nil) e = join-nil c
+opened-element (elem _ a c (elem _ b d r)) e = absurd e
+opened-element (elem _ a c (leaf _ x r)) e = absurd e
+opened-element (leaf _ x r) e = absurd e
 
 flat-split : (h : Plain) → flat h ≡ flat (first h) ++ flat (others h)
 flat-split h = ap flat (sym (join-first h)) ∙ flat-join (first h) (others h)
@@ -69,12 +65,6 @@ pub others_step : {h : Plain} {ns ms : List Node} {n : ℕ} → AreNodes h ns �
 others_step {h} i e back = record {
   same = back ∙ ap₂ drop (e ∙ sym (length-flat (first h))) (i.same ∙ flat-split h) ∙ drop-append_seam (flat (first h)) (flat (others h));
 }
-
--- a slice from 1 on, as the goals write it
-pub content_slice : {h : Plain} (ns : List Node) → AreNodes h ns → IsElement h → AreNodes (content h) (take (length ns - 1) (drop 1 ns))
-content_slice {h} ns i e =
-    let span : length ns - 1 ≡ length (drop 1 ns) = sym (length-drop 1 ns) in
-    record { same = ap (λ n. take n (drop 1 ns)) span ∙ take-length (drop 1 ns) ∙ (content_step i e).same }
 
 -- z is the first node of h
 pub IsFirstNode : Node → Plain → Type 0
@@ -122,6 +112,7 @@ opened_nodes nil = refl
 opened_nodes (elem _ a c r) = sym (flat-join c r)
 opened_nodes (leaf _ x r) = refl
 
+-- a slice from 1 on, as the goals write it
 pub opened_slice : {h : Plain} (ns : List Node) → AreNodes h ns → AreNodes (opened h) (take (length ns - 1) (drop 1 ns))
 opened_slice {h} ns i =
     let span : length ns - 1 ≡ length (drop 1 ns) = sym (length-drop 1 ns) in

@@ -115,3 +115,6 @@ impl Forest {
         }
     }
 }
+
+#[cfg(test)]
+mod tests;

@@ -78,9 +78,7 @@ impl<'a> View<'a> {
         requires { IsElement (forest_of self) }
         ensures { forest_of result ≡ content (forest_of self.entry) }
     {
-        View {
-            nodes: &self.nodes[1..],
-        }
+        self.opened()
     }
 
     /// How many nodes the first tree has, at any depth.

@@ -18,7 +18,7 @@ pub fn find(files: &[(String, Vec<u8>)], name: &str) -> Option<usize>
 }
 
 // What is left of the file at an index, after so many bytes.
-fn rest_of(files: &[(String, Vec<u8>)], index: usize, at: usize) -> &[u8]
+fn rest_at(files: &[(String, Vec<u8>)], index: usize, at: usize) -> &[u8]
     ensures bytes { result.now ≡ drop at (bytes_at files.now index) }
     ensures room { 0 < length result.now → at + length result.now < 2 ^ 64 }
 {
@@ -37,7 +37,7 @@ pub fn take_front(files: &[(String, Vec<u8>)], index: usize, at: usize, buf: &mu
     ensures room { at + result < 2 ^ 64 }
     ensures taken { take result buf.new ≡ take result (drop at (bytes_at files.now index)) }
 {
-    let rest = rest_of(files, index, at);
+    let rest = rest_at(files, index, at);
     let n = rest.len().min(buf.len());
     buf[..n].copy_from_slice(&rest[..n]);
     n

@@ -1,7 +1,7 @@
 // A folder and a sink in memory.
 ghost use Rattle.std.specs.Prelude.{◌≡◌, ◌⊎◌, ◌<◌, ◌≤◌, ◌↔◌, ◌++◌, [], length, min, take, Some, None, IfOk, OnOk, IfErr, OnErr, IfSome, IsErrOf};
-ghost use Rattle.std.specs.Io.KnownBytes.{append_known, prepend_known};
-ghost use Rattle.flux_io.specs.Outside.{IsFileOf, Lacks, Rose};
+ghost use Rattle.std.specs.Io.KnownBytes.{prepend_known};
+ghost use Rattle.flux_io.specs.Outside.{IsFileOf, Lacks};
 ghost use Rattle.flux_io.specs.Files.{listed};
 ghost use Rattle.flux_io.specs.Memory.{taken_of};
 
@@ -37,11 +37,12 @@ pub struct MemFolder {
 
 impl MemFolder {
     ghost use Rattle.flux_io.specs.declared.memory.Place.TheVariants.{Lost};
-    ghost use Rattle.flux_io.specs.Memory.{files_of, fails_of, calls_of, faults_of, left_of, held_of, FailsNext, IsCall};
+    ghost use Rattle.flux_io.specs.Memory.{files_of, fails_of, calls_of, faults_of, FailsNext, IsCall};
 
     /// A folder of these files, by their names, whose calls of the numbers in `fails` fail.
     pub fn new(files: Vec<(String, Vec<u8>)>, fails: Vec<u64>) -> MemFolder
-        ensures holds { ⟦<MemFolder as Folder>⟧.holds result ≡ Some (held_of result) }
+        ensures holds { ⟦<MemFolder as Folder>⟧.holds result
+            ≡ Some (record { map = listed files.items; rest = None }) }
         ensures left { ⟦<MemFolder as Folder>⟧.left result ≡ Some [] }
         ensures faults { ⟦<MemFolder as Folder>⟧.faults result ≡ 0 }
         ensures files { files_of result ≡ listed files.items }

@@ -1,7 +1,5 @@
-use Rattle.std.proofs.Common.{ap, ◌∙◌, ◌<◌, ◌-◌, length, arith}
-use Rattle.std.proofs.Math.ListN.{set}
+use Rattle.std.proofs.Common.{ap, ◌∙◌, ◌<◌, length, arith}
 use Rattle.flux_trees.specs.Draft.{end, depth}
-use Rattle.flux_forest.specs.Flat.{draft_of, IsDraft}
 use Rattle.flux_forest.proofs.Steps.{laid_out, end_step, last_lt, depth-length, draft_of-laid_out}
 use Rattle.flux_forest.proofs.forest.Forest.end_element.Goals as goal
 use Rattle.flux_forest.proofs.forest.Forest.end_element.Goals.{After-len}

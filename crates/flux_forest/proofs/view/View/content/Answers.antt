@@ -1,10 +1,10 @@
-use Rattle.flux_forest.proofs.ViewLaws.{shown, view_is, is_flat, content_slice}
+use Rattle.std.proofs.Common.{◌∙◌}
+use Rattle.flux_forest.specs.View.{forest_of}
+use Rattle.flux_forest.proofs.ViewLaws.{IsElement-not_nil, opened-element}
 use Rattle.flux_forest.proofs.view.View.content.Goals as goal
 
-pub invariant_of-result : goal.invariant_of-result
-invariant_of-result c = record {
-  is_flat = is_flat (content_slice c.args.self.nodes.now (shown c.args.self) c.requires);
-}
+pub opened-requires : goal.opened-requires
+opened-requires c = IsElement-not_nil (forest_of c.args.self) c.requires
 
 pub returns : goal.returns
-returns c = view_is (content_slice c.args.self.nodes.now (shown c.args.self) c.requires)
+returns c = c.opened.ensures ∙ opened-element (forest_of c.args.self) c.requires
