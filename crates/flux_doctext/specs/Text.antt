@@ -1,5 +1,5 @@
 -- The canonical text of a forest, whose labels are read through a table of names.
-use Rattle.std.specs.Prelude.{◌≡◌, ◌<◌, ℕ, List, [], ◌∷◌, ◌++◌, length, codes, IsUtf8, IsSomeAnd, slice_get, unwrap_or}
+use Rattle.std.specs.Prelude.{◌≡◌, ℕ, List, [], ◌++◌, codes, IsUtf8, IsSomeAnd, slice_get, unwrap_or}
 use Rattle.flux_atom.specs.declared.atom.Atom.{Atom}
 use Rattle.flux_atom.specs.declared.atom.Atom.TheVariants.{Bool, Text}
 use Rattle.flux_atom.specs.Names.{IsLabel, IsTable}

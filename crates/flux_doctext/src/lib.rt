@@ -1,2 +1,11 @@
 //! The text of documents.
 #![tactic(auto)]
+
+mod laws;
+mod write;
+
+pub use laws::text_tells_forest;
+pub use write::write_forest;
+
+#[cfg(test)]
+mod tests;

@@ -1,0 +1,4 @@
+mod Drafts
+mod Levels
+pub mod Literals
+pub mod TextLaws

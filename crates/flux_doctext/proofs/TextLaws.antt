@@ -1,0 +1,287 @@
+-- The laws of the canonical text.
+use Rattle.std.proofs.Common.{◌≡◌, ◌≢◌, ℕ, zero, suc, ◌<◌, Bool, true, false, if◌then◌else◌, List, [], ◌∷◌, ◌++◌, length, get_or, drop, codes, slice_get, unwrap_or, bytes_eq, Some, None, Option, IsSomeAnd, refl, sym, ap, ap₂, subst, ◌∙◌, append_assoc, arith}
+use Rattle.std.proofs.lemmas.Bool.{false≢true}
+use Rattle.std.proofs.lemmas.List.{append-nil, same_from_push}
+use Rattle.std.proofs.lemmas.List.Sums.{AllPass-from_list_all}
+use Rattle.std.proofs.lemmas.Option.{slice_get_within}
+use Rattle.std.specs.List.{flat_map, list_any}
+use Rattle.flux_atom.specs.declared.atom.Atom.{Atom}
+use Rattle.flux_atom.specs.declared.atom.Atom.TheVariants.{Bool as Truth, Text}
+use Rattle.flux_atom.specs.Names.{begins_name, continues_name, IsName, IsLabel, IsTable, with_text}
+use Rattle.flux_atom.specs.Literal.{quote, escaped, literal}
+use Rattle.flux_trees.specs.Hedge.{Plain, nil, elem, leaf}
+use Rattle.flux_trees.specs.Each.{EachLabel}
+use Rattle.flux_doctext.specs.Text.{name_text, comma, trees_text, text, NamesLabel, TextTellsForest}
+use Rattle.flux_doctext.proofs.Literals.{literal_end, EndsName, name_end, IsName-continues, IsName-first}
+
+-- a name of the table: its text is a label, and is found at its number
+
+names_label : (o : Option (List ℕ)) → IsSomeAnd o IsLabel → IsLabel (unwrap_or o []) × (o ≡ Some (unwrap_or o []))
+names_label None l = absurd l
+names_label (Some t) l = (l, refl)
+
+pub NamesLabel-label : (names : List (List ℕ)) (a : ℕ) → NamesLabel names a → IsLabel (name_text names a)
+NamesLabel-label names a l = (names_label (slice_get names a) l).0
+
+pub NamesLabel-found : (names : List (List ℕ)) (a : ℕ) → NamesLabel names a → slice_get names a ≡ Some (name_text names a)
+NamesLabel-found names a l = (names_label (slice_get names a) l).1
+
+pub NamesLabel-within : (names : List (List ℕ)) (a : ℕ) → NamesLabel names a → a < length names
+NamesLabel-within names a l =
+    slice_get_within names a (name_text names a) (NamesLabel-found names a l)
+
+pub labels_within : (names : List (List ℕ)) (v : Plain) → EachLabel (NamesLabel names) v → EachLabel (λ a. a < length names) v
+labels_within names nil l = tt
+labels_within names (elem n a c r) l =
+    (NamesLabel-within names a l.0, labels_within names c l.1, labels_within names r l.2)
+labels_within names (leaf n x r) l = labels_within names r l
+
+-- the text of trees, with a text behind it
+
+-- nothing, or the bracket that ends an element
+abbrev pub EndsTrees : List ℕ → Type 0
+EndsTrees [] = Unit {0}
+EndsTrees (b ∷ r) = b ≡ 93
+
+-- what stands behind a tree, in front of those behind it and of r
+behind : List (List ℕ) → Plain → List ℕ → List ℕ
+behind names v r = comma v ++ (trees_text names v ++ r)
+
+behind-EndsName : (names : List (List ℕ)) (v : Plain) (r : List ℕ) → EndsTrees r → EndsName (behind names v r)
+unfolding behind
+behind-EndsName names nil [] r_end = tt
+behind-EndsName names nil (b ∷ r) r_end = ap continues_name r_end
+behind-EndsName names (elem n a c t) r r_end = refl
+behind-EndsName names (leaf n x t) r r_end = refl
+
+behind_end : (names : List (List ℕ)) (v w : Plain) (r s : List ℕ) → EndsTrees r → EndsTrees s → behind names v r ≡ behind names w s → trees_text names v ++ r ≡ trees_text names w ++ s
+unfolding behind
+behind_end names nil nil r s r_end s_end e = e
+behind_end names nil (elem n a c t) [] s r_end s_end e = absurd cc
+behind_end names nil (elem n a c t) (b ∷ r) s r_end s_end e =
+    let same : b ≡ 44 = ap (λ l. get_or l 0 0) e in
+    absurd (omega arith)
+behind_end names nil (leaf n x t) [] s r_end s_end e = absurd cc
+behind_end names nil (leaf n x t) (b ∷ r) s r_end s_end e =
+    let same : b ≡ 44 = ap (λ l. get_or l 0 0) e in
+    absurd (omega arith)
+behind_end names (elem n a c t) nil r [] r_end s_end e = absurd cc
+behind_end names (elem n a c t) nil r (b ∷ s) r_end s_end e =
+    let same : 44 ≡ b = ap (λ l. get_or l 0 0) e in
+    absurd (omega arith)
+behind_end names (leaf n x t) nil r [] r_end s_end e = absurd cc
+behind_end names (leaf n x t) nil r (b ∷ s) r_end s_end e =
+    let same : 44 ≡ b = ap (λ l. get_or l 0 0) e in
+    absurd (omega arith)
+behind_end names (elem n a c t) (elem m b d u) r s r_end s_end e = ap (drop 1) e
+behind_end names (elem n a c t) (leaf m y u) r s r_end s_end e = ap (drop 1) e
+behind_end names (leaf n x t) (elem m b d u) r s r_end s_end e = ap (drop 1) e
+behind_end names (leaf n x t) (leaf m y u) r s r_end s_end e = ap (drop 1) e
+
+-- the text of an element, and of an atom, as its label or its literal and what is behind
+element_split : (names : List (List ℕ)) (a : ℕ) (c t : Plain) (r : List ℕ) → trees_text names (elem tt a c t) ++ r ≡ name_text names a ++ 91 ∷ (trees_text names c ++ 93 ∷ behind names t r)
+unfolding behind
+element_split names a c t r = regroup (name_text names a) (trees_text names c) (comma t) (trees_text names t)
+  where
+    regroup : (label inside between others : List ℕ) → (label ++ (codes "[" ++ (inside ++ (codes "]" ++ (between ++ others))))) ++ r ≡ label ++ 91 ∷ (inside ++ 93 ∷ (between ++ (others ++ r)))
+    regroup label inside between others = simp append_assoc
+
+atom_split : (names : List (List ℕ)) (x : Atom) (t : Plain) (r : List ℕ) → trees_text names (leaf tt x t) ++ r ≡ literal x ++ behind names t r
+unfolding behind
+atom_split names x t r =
+    append_assoc (literal x) (comma t ++ trees_text names t) r ∙ ap (λ l. literal x ++ l) (append_assoc (comma t) (trees_text names t) r)
+
+-- an element's text is no literal's
+element_atom : (p : List ℕ) (x : Atom) (r s : List ℕ) → IsLabel p → EndsName s → p ++ 91 ∷ r ≡ literal x ++ s → ⊥
+element_atom p (Truth true) r s label s_end e =
+    label.1 (name_end p (codes "true") (91 ∷ r) s (IsName-continues p label.0) (AllPass-from_list_all continues_name (codes "true") refl) refl s_end e).0
+element_atom p (Truth false) r s label s_end e =
+    label.2 (name_end p (codes "false") (91 ∷ r) s (IsName-continues p label.0) (AllPass-from_list_all continues_name (codes "false") refl) refl s_end e).0
+element_atom p (Text t) r s label s_end e =
+    let first = IsName-first p quote ((flat_map escaped t ++ quote ∷ []) ++ s) (91 ∷ r) label.0 (sym e) in
+    absurd cc
+
+-- nothing, or a byte that begins no tree
+abbrev BeginsNoTree : List ℕ → Type 0
+BeginsNoTree [] = Unit {0}
+BeginsNoTree (b ∷ r) = (begins_name b ≡ false) × (b ≢ quote)
+
+EndsTrees-BeginsNoTree : (r : List ℕ) → EndsTrees r → BeginsNoTree r
+EndsTrees-BeginsNoTree [] e = tt
+EndsTrees-BeginsNoTree (b ∷ r) e = (ap begins_name e, λ q. omega (arith, e))
+
+name_apart : (p r s : List ℕ) → IsName p → BeginsNoTree r → r ≡ p ++ s → ⊥
+name_apart [] r s name none e = absurd name
+name_apart (b ∷ p) [] s name none e = absurd cc
+name_apart (b ∷ p) (a ∷ r) s name none e =
+    false≢true (sym none.0 ∙ IsName-first (b ∷ p) a r s name e)
+
+literal_apart : (x : Atom) (r s : List ℕ) → BeginsNoTree r → r ≡ literal x ++ s → ⊥
+literal_apart (Truth true) [] s none e = absurd cc
+literal_apart (Truth false) [] s none e = absurd cc
+literal_apart (Text t) [] s none e = absurd cc
+literal_apart (Truth true) (a ∷ r) s none e =
+    false≢true (sym none.0 ∙ ap (λ l. begins_name (get_or l 0 0)) e)
+literal_apart (Truth false) (a ∷ r) s none e =
+    false≢true (sym none.0 ∙ ap (λ l. begins_name (get_or l 0 0)) e)
+literal_apart (Text t) (a ∷ r) s none e = none.1 (ap (λ l. get_or l 0 0) e)
+
+module _ (names : List (List ℕ)) (table : IsTable names) where
+  -- two numbers whose labels stand in front of a bracket are one, and what is behind is the same
+  label_end : (a b : ℕ) (r s : List ℕ) → NamesLabel names a → NamesLabel names b → name_text names a ++ 91 ∷ r ≡ name_text names b ++ 91 ∷ s → (a ≡ b) × (r ≡ s)
+  label_end a b r s a_label b_label e =
+      let p = IsName-continues (name_text names a) (NamesLabel-label names a a_label).0 in
+      let q = IsName-continues (name_text names b) (NamesLabel-label names b b_label).0 in
+      let same = name_end (name_text names a) (name_text names b) (91 ∷ r) (91 ∷ s) p q refl refl e in
+      let found = NamesLabel-found names b b_label ∙ ap Some (sym same.0) in
+      (table.differ a b (name_text names a) (NamesLabel-found names a a_label) found, ap (drop 1) same.1)
+
+  -- the text of trees, in front of an end of trees, is that of no other trees
+  pub trees_end : (v w : Plain) (r s : List ℕ) → EachLabel (NamesLabel names) v → EachLabel (NamesLabel names) w → EndsTrees r → EndsTrees s → trees_text names v ++ r ≡ trees_text names w ++ s → (v ≡ w) × (r ≡ s)
+  trees_end nil nil r s k l r_end s_end e = (refl, e)
+  trees_end nil (elem m b d u) r s k l r_end s_end e =
+      absurd (name_apart (name_text names b) r _ (NamesLabel-label names b l.0).0 (EndsTrees-BeginsNoTree r r_end) (e ∙ element_split names b d u s))
+  trees_end nil (leaf m y u) r s k l r_end s_end e =
+      absurd (literal_apart y r _ (EndsTrees-BeginsNoTree r r_end) (e ∙ atom_split names y u s))
+  trees_end (elem n a c t) nil r s k l r_end s_end e =
+      absurd (name_apart (name_text names a) s _ (NamesLabel-label names a k.0).0 (EndsTrees-BeginsNoTree s s_end) (sym e ∙ element_split names a c t r))
+  trees_end (leaf n x t) nil r s k l r_end s_end e =
+      absurd (literal_apart x s _ (EndsTrees-BeginsNoTree s s_end) (sym e ∙ atom_split names x t r))
+  trees_end (elem n a c t) (leaf m y u) r s k l r_end s_end e =
+      absurd (element_atom (name_text names a) y _ (behind names u s) (NamesLabel-label names a k.0) (behind-EndsName names u s s_end) (sym (element_split names a c t r) ∙ e ∙ atom_split names y u s))
+  trees_end (leaf n x t) (elem m b d u) r s k l r_end s_end e =
+      absurd (element_atom (name_text names b) x _ (behind names t r) (NamesLabel-label names b l.0) (behind-EndsName names t r r_end) (sym (element_split names b d u s) ∙ sym e ∙ atom_split names x t r))
+  trees_end (leaf n x t) (leaf m y u) r s k l r_end s_end e =
+      let first = literal_end x y (behind names t r) (behind names u s) (sym (atom_split names x t r) ∙ e ∙ atom_split names y u s) in
+      let rest = trees_end t u r s k l r_end s_end (behind_end names t u r s r_end s_end first.1) in
+      (ap₂ (leaf tt) first.0 rest.0, rest.1)
+  trees_end (elem n a c t) (elem m b d u) r s k l r_end s_end e =
+      let label = label_end a b (trees_text names c ++ 93 ∷ behind names t r) (trees_text names d ++ 93 ∷ behind names u s) k.0 l.0 (sym (element_split names a c t r) ∙ e ∙ element_split names b d u s) in
+      let inside = trees_end c d (93 ∷ behind names t r) (93 ∷ behind names u s) k.1 l.1 refl refl label.1 in
+      let rest = trees_end t u r s k.2 l.2 r_end s_end (behind_end names t u r s r_end s_end (ap (drop 1) inside.1)) in
+      ((λ i. elem tt (label.0 i) (inside.0 i) (rest.0 i)), rest.1)
+
+  -- so is that of trees alone
+  trees_alone : (v w : Plain) → EachLabel (NamesLabel names) v → EachLabel (NamesLabel names) w → trees_text names v ≡ trees_text names w → v ≡ w
+  trees_alone v w k l e =
+      (trees_end v w [] [] k l tt tt (append-nil (trees_text names v) ∙ e ∙ sym (append-nil (trees_text names w)))).0
+
+-- `()` begins no tree
+none_apart : BeginsNoTree (codes "()")
+none_apart = (refl, λ e. omega (arith, e))
+
+-- where the text of each label is a label, the text of a forest is that of no other
+pub text_tells : TextTellsForest
+text_tells names table nil nil k l e = refl
+text_tells names table nil (elem m b d u) k l e =
+    absurd (name_apart (name_text names b) (codes "()") _ (NamesLabel-label names b l.0).0 none_apart e)
+text_tells names table nil (leaf m y u) k l e =
+    absurd (literal_apart y (codes "()") _ none_apart e)
+text_tells names table (elem n a c t) nil k l e =
+    absurd (name_apart (name_text names a) (codes "()") _ (NamesLabel-label names a k.0).0 none_apart (sym e))
+text_tells names table (leaf n x t) nil k l e =
+    absurd (literal_apart x (codes "()") _ none_apart (sym e))
+text_tells names table (elem n a c t) (elem m b d u) k l e =
+    trees_alone names table (elem n a c t) (elem m b d u) k l e
+text_tells names table (elem n a c t) (leaf m y u) k l e =
+    trees_alone names table (elem n a c t) (leaf m y u) k l e
+text_tells names table (leaf n x t) (elem m b d u) k l e =
+    trees_alone names table (leaf n x t) (elem m b d u) k l e
+text_tells names table (leaf n x t) (leaf m y u) k l e =
+    trees_alone names table (leaf n x t) (leaf m y u) k l e
+
+-- the text stays where the table grows
+
+pub slice_get-more : (names more : List (List ℕ)) (a : ℕ) → a < length names → slice_get (names ++ more) a ≡ slice_get names a
+slice_get-more [] more a l = absurd (omega arith)
+slice_get-more (n ∷ names) more zero l = refl
+slice_get-more (n ∷ names) more (suc a) l = slice_get-more names more a (omega arith)
+
+pub trees_text-more : (names more : List (List ℕ)) (v : Plain) → EachLabel (λ a. a < length names) v → trees_text (names ++ more) v ≡ trees_text names v
+trees_text-more names more nil l = refl
+trees_text-more names more (elem n a c r) l =
+    let label = ap (λ o. unwrap_or o []) (slice_get-more names more a l.0) in
+    let inside = trees_text-more names more c l.1 in
+    let others = trees_text-more names more r l.2 in
+    (λ i. label i ++ (codes "[" ++ (inside i ++ (codes "]" ++ (comma r ++ others i)))))
+trees_text-more names more (leaf n x r) l =
+    ap (λ t. literal x ++ (comma r ++ t)) (trees_text-more names more r l)
+
+-- a forest's text is the same over a table with more names behind
+pub text_stable : (names more : List (List ℕ)) (v : Plain) → EachLabel (λ a. a < length names) v → text (names ++ more) v ≡ text names v
+text_stable names more nil l = refl
+text_stable names more (elem n a c r) l = trees_text-more names more (elem n a c r) l
+text_stable names more (leaf n x r) l = trees_text-more names more (leaf n x r) l
+
+-- and over one that was shown a text
+pub text_stable-with_text : (names : List (List ℕ)) (t : List ℕ) (v : Plain) → EachLabel (λ a. a < length names) v → text (with_text names t) v ≡ text names v
+text_stable-with_text names t v l = by (list_any (bytes_eq t) names)
+  where
+    by : (held : Bool) → text (if held then names else names ++ t ∷ []) v ≡ text names v
+    by true = refl
+    by false = text_stable names (t ∷ []) v l
+
+-- a label stays one, too
+pub NamesLabel-more : (names more : List (List ℕ)) (a : ℕ) → NamesLabel names a → NamesLabel (names ++ more) a
+NamesLabel-more names more a l =
+    subst (λ o. IsSomeAnd o IsLabel) (sym (slice_get-more names more a (NamesLabel-within names a l))) l
+
+pub labels-more : (names more : List (List ℕ)) (v : Plain) → EachLabel (NamesLabel names) v → EachLabel (NamesLabel (names ++ more)) v
+labels-more names more nil l = tt
+labels-more names more (elem n a c r) l =
+    (NamesLabel-more names more a l.0, labels-more names more c l.1, labels-more names more r l.2)
+labels-more names more (leaf n x r) l = labels-more names more r l
+
+pub labels-with_text : (names : List (List ℕ)) (t : List ℕ) (v : Plain) → EachLabel (NamesLabel names) v → EachLabel (NamesLabel (with_text names t)) v
+labels-with_text names t v l = by (list_any (bytes_eq t) names)
+  where
+    by : (held : Bool) → EachLabel (NamesLabel (if held then names else names ++ t ∷ [])) v
+    by true = l
+    by false = labels-more names (t ∷ []) v l
+
+-- no text ends in a newline, whatever the names are
+
+-- it is not empty, and its last byte is no newline
+record EndsWell (t : List ℕ) : Type 0 where
+  before : List ℕ
+  last : ℕ
+  split : t ≡ before ++ last ∷ []
+  differs : last ≢ 10
+
+EndsWell-append : (s t : List ℕ) → EndsWell t → EndsWell (s ++ t)
+EndsWell-append s t i = record {
+  before = s ++ i.before;
+  last = i.last;
+  split = ap (λ l. s ++ l) i.split ∙ sym (append_assoc s i.before (i.last ∷ []));
+  differs = i.differs;
+}
+
+literal-EndsWell : (x : Atom) → EndsWell (literal x)
+literal-EndsWell (Truth true) = record { before = codes "tru"; last = 101; split = refl; differs = λ e. omega (arith, e) }
+literal-EndsWell (Truth false) = record { before = codes "fals"; last = 101; split = refl; differs = λ e. omega (arith, e) }
+literal-EndsWell (Text t) = record { before = quote ∷ flat_map escaped t; last = quote; split = refl; differs = λ e. omega (arith, e) }
+
+-- what ends at a tree, and what ends with the trees behind it
+EndsWell-behind : (names : List (List ℕ)) (t : List ℕ) (r : Plain) → EndsWell t → (r ≢ nil → EndsWell (trees_text names r)) → EndsWell (t ++ (comma r ++ trees_text names r))
+EndsWell-behind names t nil i others = subst EndsWell (sym (append-nil t)) i
+EndsWell-behind names t (elem n a c r) i others =
+    EndsWell-append t _ (EndsWell-append (codes ",") _ (others (λ e. cc)))
+EndsWell-behind names t (leaf n x r) i others =
+    EndsWell-append t _ (EndsWell-append (codes ",") _ (others (λ e. cc)))
+
+trees_text-EndsWell : (names : List (List ℕ)) (v : Plain) → v ≢ nil → EndsWell (trees_text names v)
+trees_text-EndsWell names nil some = absurd (some refl)
+trees_text-EndsWell names (elem n a c r) some =
+    EndsWell-append (name_text names a) _ (EndsWell-append (codes "[") _ (EndsWell-append (trees_text names c) _ (EndsWell-behind names (codes "]") r (record { before = []; last = 93; split = refl; differs = λ e. omega (arith, e) }) (trees_text-EndsWell names r))))
+trees_text-EndsWell names (leaf n x r) some =
+    EndsWell-behind names (literal x) r (literal-EndsWell x) (trees_text-EndsWell names r)
+
+text-EndsWell : (names : List (List ℕ)) (v : Plain) → EndsWell (text names v)
+text-EndsWell names nil = record { before = codes "("; last = 41; split = refl; differs = λ e. omega (arith, e) }
+text-EndsWell names (elem n a c r) = trees_text-EndsWell names (elem n a c r) (λ e. cc)
+text-EndsWell names (leaf n x r) = trees_text-EndsWell names (leaf n x r) (λ e. cc)
+
+pub text-no_newline_last : (names : List (List ℕ)) (v : Plain) (front : List ℕ) → text names v ≢ front ++ 10 ∷ []
+text-no_newline_last names v front e =
+    let i = text-EndsWell names v in
+    i.differs (same_from_push i.before front i.last 10 (sym i.split ∙ e)).1
