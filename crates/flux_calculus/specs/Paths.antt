@@ -1,0 +1,17 @@
+-- Statements on the elements that a path of labels leads to.
+use Rattle.std.specs.Prelude.{ℕ, List, [], ◌∷◌}
+use Rattle.flux_calculus.specs.Core.{Core, label, delete, test, children, iter}
+
+-- on each tree with this label
+abbrev pub on_step : ℕ → Core → Core
+on_step n s = iter (test (label n) s)
+
+-- on each element whose label is the last of the path, at each level inside one with the label before it
+abbrev pub on_path : List ℕ → Core → Core
+on_path [] s = s
+on_path (n ∷ []) s = on_step n s
+on_path (n ∷ m ∷ path) s = on_step n (children (on_path (m ∷ path) s))
+
+-- `DELETE` and the path
+abbrev pub delete_on : List ℕ → Core
+delete_on path = on_path path delete

@@ -1,0 +1,16 @@
+//! The core of the update language, after James Cheney, "FLUX: Functional Updates for XML" (ICFP
+//! 2008): what its statements make of a forest, by rules. Definitions and laws, and no code.
+#![tactic(auto)]
+
+ghost use Rattle.flux_calculus.specs.Laws.{DerivationIsComputed, DerivationIsUnique};
+
+/// A statement makes a forest of another by the rules exactly where the function that carries
+/// statements out gives it. It does nothing: its contract is the law.
+pub fn derivation_is_computed()
+    ensures { DerivationIsComputed }
+{}
+
+/// A statement makes at most one forest of another. It does nothing: its contract is the law.
+pub fn derivation_is_unique()
+    ensures { DerivationIsUnique }
+{}
