@@ -1,2 +1,11 @@
 pub mod ScriptLaws
 pub mod PathLaws
+pub mod Interned
+pub mod Preparing
+pub mod Answering
+pub mod Pruned
+pub mod StringLaws
+pub mod WrittenLaws
+pub mod EndingLaws
+pub mod StepLaws
+pub mod DocumentLaws

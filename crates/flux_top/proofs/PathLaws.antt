@@ -110,3 +110,28 @@ steps_held texts each = All-map IsStep held texts each
 pub held_steps : (texts : List (Bor (List ℕ))) → All IsStep (map held texts) → All (λ text. IsStep text.now) texts
 held_steps texts each k d below =
     subst IsStep (get_or-map held texts k d d.now below) (each k d.now (omega (arith, length-map texts held, below)))
+
+name_some : (text : List ℕ) → IsName text → 1 ≤ length text
+name_some [] is = absurd is
+name_some (b ∷ bs) is = omega arith
+
+-- a path has no more steps than bytes
+path_length : (steps : List (List ℕ)) → All IsStep steps → length steps ≤ length (join_with_byte 47 steps)
+path_length [] all = omega arith
+path_length (x ∷ []) all = name_some x (all_first IsStep x [] all).0.0
+path_length (x ∷ y ∷ xs) all =
+    omega (arith, length-append x (47 ∷ join_with_byte 47 (y ∷ xs)), path_length (y ∷ xs) (all_rest IsStep x (y ∷ xs) all))
+
+pub steps_length : (script : List ℕ) (steps : List (List ℕ)) → DeletesPath script steps → length steps ≤ length script
+steps_length script steps is = by is.line
+  where
+    by : IsLine script (codes "DELETE " ++ join_with_byte 47 steps) → length steps ≤ length script
+    by (inl same) = omega (arith, ap length same, length-append (codes "DELETE ") (join_with_byte 47 steps), path_length steps is.each)
+    by (inr same) = omega (arith, ap length same, length-append (codes "DELETE " ++ join_with_byte 47 steps) (10 ∷ []), length-append (codes "DELETE ") (join_with_byte 47 steps), path_length steps is.each)
+
+-- what a slice of steps needs to be interned
+pub steps_are_names : (script : List ℕ) (texts : List (Bor (List ℕ))) → DeletesPath script (map held texts) → All (λ text. IsName text.now) texts
+steps_are_names script texts is k d below = (held_steps texts is.each k d below).0.0
+
+pub texts_length : (script : List ℕ) (texts : List (Bor (List ℕ))) → DeletesPath script (map held texts) → length texts ≤ length script
+texts_length script texts is = omega (arith, length-map texts held, steps_length script (map held texts) is)

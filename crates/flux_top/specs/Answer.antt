@@ -1,0 +1,66 @@
+-- What the program answers, where the folder tells what it holds.
+use Rattle.std.specs.Prelude.{◌≡◌, ◌⊎◌, ◌<◌, ◌≤◌, ℕ, List, [], ◌∷◌, ◌++◌, length, map, Option, Some, None, IsSome}
+use Rattle.flux_io.specs.Outside.{Held, file}
+use Rattle.flux_trees.specs.Hedge.{Plain}
+use Rattle.flux_doctext.specs.Text.{text, name_text}
+use Rattle.flux_calculus.specs.Core.{standard}
+use Rattle.flux_calculus.specs.Derives.{Derives}
+use Rattle.flux_calculus.specs.Paths.{delete_on}
+use Rattle.flux_top.specs.Words.{form}
+use Rattle.flux_top.specs.Lines.{status_of, line_of}
+use Rattle.flux_top.specs.Script.{DeletesPath}
+use Rattle.flux_top.specs.Document.{IsDocument}
+use Rattle.flux_top.specs.declared.status.Status.{Status}
+use Rattle.flux_top.specs.declared.status.Status.TheVariants.{Done}
+use Rattle.flux_top.specs.declared.refusal.Refusal.{Refusal}
+use Rattle.flux_top.specs.declared.refusal.Refusal.TheVariants.{WrongWords, LongScript, OtherScript, LongDocument, OtherDocument}
+
+-- the most bytes of a script, and of a document
+abbrev pub script_limit : ℕ
+script_limit = 1048576
+
+abbrev pub document_limit : ℕ
+document_limit = 33554432
+
+-- the words name a script that is there, with these bytes, and a document
+pub record NamesScript (held : Held) (words : List (List ℕ)) (script : List ℕ) : Type 0 where
+  pub script_name : List ℕ
+  pub document_name : List ℕ
+  pub form_is : form words ≡ Some (script_name, document_name)
+  pub is_there : file held script_name ≡ Some script
+
+-- the words name a document that is there, with these bytes
+pub record NamesDocument (held : Held) (words : List (List ℕ)) (document : List ℕ) : Type 0 where
+  pub script_name : List ℕ
+  pub document_name : List ℕ
+  pub form_is : form words ≡ Some (script_name, document_name)
+  pub is_there : file held document_name ≡ Some document
+
+-- the script that the words name is within its limit and deletes the path of these steps
+pub record AsksDeletion (held : Held) (words : List (List ℕ)) (steps : List (List ℕ)) : Type 0 where
+  pub script : List ℕ
+  pub named : NamesScript held words script
+  pub within : length script ≤ script_limit
+  pub deletes : DeletesPath script steps
+
+-- Answer held words status output line: the status, the bytes of the output, the line of a refusal
+pub data Answer (held : Held) (words : List (List ℕ)) : Status → List ℕ → List ℕ → Type 0 where
+  usage : form words ≡ None → Answer held words (status_of WrongWords) [] (line_of WrongWords)
+  long_script : {script : List ℕ} → NamesScript held words script → script_limit < length script
+      → Answer held words (status_of LongScript) [] (line_of LongScript)
+  other_script : {script : List ℕ} → NamesScript held words script → length script ≤ script_limit → ((steps : List (List ℕ)) → ¬ (DeletesPath script steps))
+      → Answer held words (status_of OtherScript) [] (line_of OtherScript)
+  long_document : {steps : List (List ℕ)} {document : List ℕ} → AsksDeletion held words steps → NamesDocument held words document → document_limit < length document
+      → Answer held words (status_of LongDocument) [] (line_of LongDocument)
+  other_document : {steps : List (List ℕ)} {document : List ℕ} → AsksDeletion held words steps → NamesDocument held words document → length document ≤ document_limit
+      → ((names : List (List ℕ)) (v : Plain) → ¬ (IsDocument names document v))
+      → Answer held words (status_of OtherDocument) [] (line_of OtherDocument)
+  done : {document : List ℕ} {names : List (List ℕ)} (path : List ℕ) {v w : Plain} → AsksDeletion held words (map (name_text names) path) → NamesDocument held words document
+      → length document ≤ document_limit → IsDocument names document v → Derives standard v (delete_on path) w
+      → Answer held words Done (text names w ++ 10 ∷ []) []
+
+-- a file whose turn has come isn't there: the script, or the document of a script that is taken
+pub data Lacking (held : Held) (words : List (List ℕ)) : Type 0 where
+  no_script : {script_name document_name : List ℕ} → form words ≡ Some (script_name, document_name) → file held script_name ≡ None → Lacking held words
+  no_document : {steps : List (List ℕ)} {script_name document_name : List ℕ} → AsksDeletion held words steps → form words ≡ Some (script_name, document_name)
+      → file held document_name ≡ None → Lacking held words
