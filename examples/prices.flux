@@ -1,0 +1,1 @@
+DELETE lib/book/price
