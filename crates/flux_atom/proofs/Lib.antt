@@ -1,3 +1,4 @@
 pub mod LiteralLaws
+mod ReservedLaws
 mod Runs
 mod Tables

@@ -1,3 +1,4 @@
 pub mod Atom
 pub mod Literal
 pub mod Names
+pub mod Reserved

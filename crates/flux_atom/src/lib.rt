@@ -6,13 +6,15 @@ mod label;
 mod literal;
 mod name;
 mod names;
+mod reserved;
 mod word;
 
 pub use atom::{Atom, AtomKind, copy, kind};
-pub use label::{is_label, is_name};
+pub use label::{can_continue, is_label, is_name};
 pub use literal::write_literal;
 pub use name::Name;
 pub use names::Names;
+pub use reserved::is_reserved;
 pub use sqlite_items::{Boxed, Items};
 pub use word::Word;
 

@@ -1,5 +1,5 @@
 -- What holds of each label, or each atom, of a forest holds of what a statement makes of it.
-use Rattle.std.proofs.Common.{◌≡◌, refl, ap, subst, ℕ, Bool, List, [], ◌∷◌}
+use Rattle.std.proofs.Common.{subst, ℕ, List, [], ◌∷◌}
 use Rattle.flux_atom.specs.declared.atom.Atom.{Atom}
 use Rattle.flux_trees.specs.Hedge.{Plain, nil, elem, leaf, join, trees}
 use Rattle.flux_trees.specs.Each.{EachLabel, EachAtom}

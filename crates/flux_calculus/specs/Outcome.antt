@@ -1,5 +1,5 @@
 -- What a statement does, as a function.
-use Rattle.std.specs.Prelude.{ℕ, List, [], ◌∷◌, if◌then◌else◌}
+use Rattle.std.specs.Prelude.{List, [], ◌∷◌, if◌then◌else◌}
 use Rattle.flux_trees.specs.Hedge.{Plain, nil, elem, join, trees}
 use Rattle.flux_calculus.specs.Core.{Test, Core, delete, test, children, iter, Context, is_tree, matches}
 

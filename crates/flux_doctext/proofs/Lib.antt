@@ -1,3 +1,4 @@
+pub mod Alike
 mod Drafts
 mod Levels
 pub mod Literals

@@ -7,7 +7,7 @@ use Rattle.std.proofs.lemmas.List.Elements.{All-head, All-tail, All-cons}
 use Rattle.std.specs.List.{AllPass, flat_map}
 use Rattle.flux_atom.specs.declared.atom.Atom.{Atom}
 use Rattle.flux_atom.specs.declared.atom.Atom.TheVariants.{Bool as Truth, Text}
-use Rattle.flux_atom.specs.Names.{begins_name, continues_name, IsName}
+use Rattle.flux_atom.specs.Names.{begins_name, continues_name, EndsName, IsName}
 use Rattle.flux_atom.specs.Literal.{quote, backslash, newline, tab, is_control, hex_digit, hex_digits, escaped, literal}
 
 -- what a hexadecimal digit is worth
@@ -132,11 +132,6 @@ literal_end (Text x) (Text y) r s e =
     let rest : flat_map escaped x ++ quote ∷ r ≡ flat_map escaped y ++ quote ∷ s = sym (append_assoc (flat_map escaped x) (quote ∷ []) r) ∙ ap (drop 1) e ∙ append_assoc (flat_map escaped y) (quote ∷ []) s in
     let same = escaped_end x y r s rest in
     (ap Text same.0, same.1)
-
--- nothing, or a byte that continues no name
-abbrev pub EndsName : List ℕ → Type 0
-EndsName [] = Unit {0}
-EndsName (b ∷ r) = continues_name b ≡ false
 
 -- the bytes before such an end are those of one name
 pub name_end : (p q r s : List ℕ) → AllPass continues_name p → AllPass continues_name q → EndsName r → EndsName s → p ++ r ≡ q ++ s → (p ≡ q) × (r ≡ s)

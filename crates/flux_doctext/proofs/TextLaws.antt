@@ -7,12 +7,13 @@ use Rattle.std.proofs.lemmas.Option.{slice_get_within}
 use Rattle.std.specs.List.{flat_map, list_any}
 use Rattle.flux_atom.specs.declared.atom.Atom.{Atom}
 use Rattle.flux_atom.specs.declared.atom.Atom.TheVariants.{Bool as Truth, Text}
-use Rattle.flux_atom.specs.Names.{begins_name, continues_name, IsName, IsLabel, IsTable, with_text}
+use Rattle.flux_atom.specs.Names.{begins_name, continues_name, EndsName, IsName, IsLabel, IsTable, with_text}
 use Rattle.flux_atom.specs.Literal.{quote, escaped, literal}
 use Rattle.flux_trees.specs.Hedge.{Plain, nil, elem, leaf}
 use Rattle.flux_trees.specs.Each.{EachLabel}
 use Rattle.flux_doctext.specs.Text.{name_text, comma, trees_text, text, NamesLabel, TextTellsForest}
-use Rattle.flux_doctext.proofs.Literals.{literal_end, EndsName, name_end, IsName-continues, IsName-first}
+use Rattle.flux_doctext.proofs.Alike.{Alike, alike_nil, alike_elem, alike_leaf}
+use Rattle.flux_doctext.proofs.Literals.{literal_end, name_end, IsName-continues, IsName-first}
 
 -- a name of the table: its text is a label, and is found at its number
 
@@ -54,29 +55,29 @@ behind-EndsName names nil (b ∷ r) r_end = ap continues_name r_end
 behind-EndsName names (elem n a c t) r r_end = refl
 behind-EndsName names (leaf n x t) r r_end = refl
 
-behind_end : (names : List (List ℕ)) (v w : Plain) (r s : List ℕ) → EndsTrees r → EndsTrees s → behind names v r ≡ behind names w s → trees_text names v ++ r ≡ trees_text names w ++ s
+behind_end : (names others : List (List ℕ)) (v w : Plain) (r s : List ℕ) → EndsTrees r → EndsTrees s → behind names v r ≡ behind others w s → trees_text names v ++ r ≡ trees_text others w ++ s
 unfolding behind
-behind_end names nil nil r s r_end s_end e = e
-behind_end names nil (elem n a c t) [] s r_end s_end e = absurd cc
-behind_end names nil (elem n a c t) (b ∷ r) s r_end s_end e =
+behind_end names others nil nil r s r_end s_end e = e
+behind_end names others nil (elem n a c t) [] s r_end s_end e = absurd cc
+behind_end names others nil (elem n a c t) (b ∷ r) s r_end s_end e =
     let same : b ≡ 44 = ap (λ l. get_or l 0 0) e in
     absurd (omega arith)
-behind_end names nil (leaf n x t) [] s r_end s_end e = absurd cc
-behind_end names nil (leaf n x t) (b ∷ r) s r_end s_end e =
+behind_end names others nil (leaf n x t) [] s r_end s_end e = absurd cc
+behind_end names others nil (leaf n x t) (b ∷ r) s r_end s_end e =
     let same : b ≡ 44 = ap (λ l. get_or l 0 0) e in
     absurd (omega arith)
-behind_end names (elem n a c t) nil r [] r_end s_end e = absurd cc
-behind_end names (elem n a c t) nil r (b ∷ s) r_end s_end e =
+behind_end names others (elem n a c t) nil r [] r_end s_end e = absurd cc
+behind_end names others (elem n a c t) nil r (b ∷ s) r_end s_end e =
     let same : 44 ≡ b = ap (λ l. get_or l 0 0) e in
     absurd (omega arith)
-behind_end names (leaf n x t) nil r [] r_end s_end e = absurd cc
-behind_end names (leaf n x t) nil r (b ∷ s) r_end s_end e =
+behind_end names others (leaf n x t) nil r [] r_end s_end e = absurd cc
+behind_end names others (leaf n x t) nil r (b ∷ s) r_end s_end e =
     let same : 44 ≡ b = ap (λ l. get_or l 0 0) e in
     absurd (omega arith)
-behind_end names (elem n a c t) (elem m b d u) r s r_end s_end e = ap (drop 1) e
-behind_end names (elem n a c t) (leaf m y u) r s r_end s_end e = ap (drop 1) e
-behind_end names (leaf n x t) (elem m b d u) r s r_end s_end e = ap (drop 1) e
-behind_end names (leaf n x t) (leaf m y u) r s r_end s_end e = ap (drop 1) e
+behind_end names others (elem n a c t) (elem m b d u) r s r_end s_end e = ap (drop 1) e
+behind_end names others (elem n a c t) (leaf m y u) r s r_end s_end e = ap (drop 1) e
+behind_end names others (leaf n x t) (elem m b d u) r s r_end s_end e = ap (drop 1) e
+behind_end names others (leaf n x t) (leaf m y u) r s r_end s_end e = ap (drop 1) e
 
 -- the text of an element, and of an atom, as its label or its literal and what is behind
 element_split : (names : List (List ℕ)) (a : ℕ) (c t : Plain) (r : List ℕ) → trees_text names (elem tt a c t) ++ r ≡ name_text names a ++ 91 ∷ (trees_text names c ++ 93 ∷ behind names t r)
@@ -126,69 +127,82 @@ literal_apart (Truth false) (a ∷ r) s none e =
     false≢true (sym none.0 ∙ ap (λ l. begins_name (get_or l 0 0)) e)
 literal_apart (Text t) (a ∷ r) s none e = none.1 (ap (λ l. get_or l 0 0) e)
 
-module _ (names : List (List ℕ)) (table : IsTable names) where
-  -- two numbers whose labels stand in front of a bracket are one, and what is behind is the same
-  label_end : (a b : ℕ) (r s : List ℕ) → NamesLabel names a → NamesLabel names b → name_text names a ++ 91 ∷ r ≡ name_text names b ++ 91 ∷ s → (a ≡ b) × (r ≡ s)
+module _ (names others : List (List ℕ)) where
+  -- two labels in front of brackets are one, and what is behind is the same
+  label_end : (a b : ℕ) (r s : List ℕ) → NamesLabel names a → NamesLabel others b → name_text names a ++ 91 ∷ r ≡ name_text others b ++ 91 ∷ s → (name_text names a ≡ name_text others b) × (r ≡ s)
   label_end a b r s a_label b_label e =
       let p = IsName-continues (name_text names a) (NamesLabel-label names a a_label).0 in
-      let q = IsName-continues (name_text names b) (NamesLabel-label names b b_label).0 in
-      let same = name_end (name_text names a) (name_text names b) (91 ∷ r) (91 ∷ s) p q refl refl e in
-      let found = NamesLabel-found names b b_label ∙ ap Some (sym same.0) in
-      (table.differ a b (name_text names a) (NamesLabel-found names a a_label) found, ap (drop 1) same.1)
+      let q = IsName-continues (name_text others b) (NamesLabel-label others b b_label).0 in
+      let same = name_end (name_text names a) (name_text others b) (91 ∷ r) (91 ∷ s) p q refl refl e in
+      (same.0, ap (drop 1) same.1)
 
-  -- the text of trees, in front of an end of trees, is that of no other trees
-  pub trees_end : (v w : Plain) (r s : List ℕ) → EachLabel (NamesLabel names) v → EachLabel (NamesLabel names) w → EndsTrees r → EndsTrees s → trees_text names v ++ r ≡ trees_text names w ++ s → (v ≡ w) × (r ≡ s)
-  trees_end nil nil r s k l r_end s_end e = (refl, e)
+  -- the text of trees, in front of an end of trees, is that of trees that are alike
+  pub trees_end : (v w : Plain) (r s : List ℕ) → EachLabel (NamesLabel names) v → EachLabel (NamesLabel others) w → EndsTrees r → EndsTrees s → trees_text names v ++ r ≡ trees_text others w ++ s → Alike names others v w × (r ≡ s)
+  trees_end nil nil r s k l r_end s_end e = (alike_nil, e)
   trees_end nil (elem m b d u) r s k l r_end s_end e =
-      absurd (name_apart (name_text names b) r _ (NamesLabel-label names b l.0).0 (EndsTrees-BeginsNoTree r r_end) (e ∙ element_split names b d u s))
+      absurd (name_apart (name_text others b) r _ (NamesLabel-label others b l.0).0 (EndsTrees-BeginsNoTree r r_end) (e ∙ element_split others b d u s))
   trees_end nil (leaf m y u) r s k l r_end s_end e =
-      absurd (literal_apart y r _ (EndsTrees-BeginsNoTree r r_end) (e ∙ atom_split names y u s))
+      absurd (literal_apart y r _ (EndsTrees-BeginsNoTree r r_end) (e ∙ atom_split others y u s))
   trees_end (elem n a c t) nil r s k l r_end s_end e =
       absurd (name_apart (name_text names a) s _ (NamesLabel-label names a k.0).0 (EndsTrees-BeginsNoTree s s_end) (sym e ∙ element_split names a c t r))
   trees_end (leaf n x t) nil r s k l r_end s_end e =
       absurd (literal_apart x s _ (EndsTrees-BeginsNoTree s s_end) (sym e ∙ atom_split names x t r))
   trees_end (elem n a c t) (leaf m y u) r s k l r_end s_end e =
-      absurd (element_atom (name_text names a) y _ (behind names u s) (NamesLabel-label names a k.0) (behind-EndsName names u s s_end) (sym (element_split names a c t r) ∙ e ∙ atom_split names y u s))
+      absurd (element_atom (name_text names a) y _ (behind others u s) (NamesLabel-label names a k.0) (behind-EndsName others u s s_end) (sym (element_split names a c t r) ∙ e ∙ atom_split others y u s))
   trees_end (leaf n x t) (elem m b d u) r s k l r_end s_end e =
-      absurd (element_atom (name_text names b) x _ (behind names t r) (NamesLabel-label names b l.0) (behind-EndsName names t r r_end) (sym (element_split names b d u s) ∙ sym e ∙ atom_split names x t r))
+      absurd (element_atom (name_text others b) x _ (behind names t r) (NamesLabel-label others b l.0) (behind-EndsName names t r r_end) (sym (element_split others b d u s) ∙ sym e ∙ atom_split names x t r))
   trees_end (leaf n x t) (leaf m y u) r s k l r_end s_end e =
-      let first = literal_end x y (behind names t r) (behind names u s) (sym (atom_split names x t r) ∙ e ∙ atom_split names y u s) in
-      let rest = trees_end t u r s k l r_end s_end (behind_end names t u r s r_end s_end first.1) in
-      (ap₂ (leaf tt) first.0 rest.0, rest.1)
+      let first = literal_end x y (behind names t r) (behind others u s) (sym (atom_split names x t r) ∙ e ∙ atom_split others y u s) in
+      let rest = trees_end t u r s k l r_end s_end (behind_end names others t u r s r_end s_end first.1) in
+      (alike_leaf first.0 rest.0, rest.1)
   trees_end (elem n a c t) (elem m b d u) r s k l r_end s_end e =
-      let label = label_end a b (trees_text names c ++ 93 ∷ behind names t r) (trees_text names d ++ 93 ∷ behind names u s) k.0 l.0 (sym (element_split names a c t r) ∙ e ∙ element_split names b d u s) in
-      let inside = trees_end c d (93 ∷ behind names t r) (93 ∷ behind names u s) k.1 l.1 refl refl label.1 in
-      let rest = trees_end t u r s k.2 l.2 r_end s_end (behind_end names t u r s r_end s_end (ap (drop 1) inside.1)) in
-      ((λ i. elem tt (label.0 i) (inside.0 i) (rest.0 i)), rest.1)
+      let label = label_end a b (trees_text names c ++ 93 ∷ behind names t r) (trees_text others d ++ 93 ∷ behind others u s) k.0 l.0 (sym (element_split names a c t r) ∙ e ∙ element_split others b d u s) in
+      let inside = trees_end c d (93 ∷ behind names t r) (93 ∷ behind others u s) k.1 l.1 refl refl label.1 in
+      let rest = trees_end t u r s k.2 l.2 r_end s_end (behind_end names others t u r s r_end s_end (ap (drop 1) inside.1)) in
+      (alike_elem label.0 inside.0 rest.0, rest.1)
 
   -- so is that of trees alone
-  trees_alone : (v w : Plain) → EachLabel (NamesLabel names) v → EachLabel (NamesLabel names) w → trees_text names v ≡ trees_text names w → v ≡ w
+  trees_alone : (v w : Plain) → EachLabel (NamesLabel names) v → EachLabel (NamesLabel others) w → trees_text names v ≡ trees_text others w → Alike names others v w
   trees_alone v w k l e =
-      (trees_end v w [] [] k l tt tt (append-nil (trees_text names v) ∙ e ∙ sym (append-nil (trees_text names w)))).0
+      (trees_end v w [] [] k l tt tt (append-nil (trees_text names v) ∙ e ∙ sym (append-nil (trees_text others w)))).0
 
 -- `()` begins no tree
 none_apart : BeginsNoTree (codes "()")
 none_apart = (refl, λ e. omega (arith, e))
 
+module _ (names others : List (List ℕ)) where
+  -- where the text of each label is a label, forests with one text are alike
+  pub text_alike : (v w : Plain) → EachLabel (NamesLabel names) v → EachLabel (NamesLabel others) w → text names v ≡ text others w → Alike names others v w
+  text_alike nil nil k l e = alike_nil
+  text_alike nil (elem m b d u) k l e =
+      absurd (name_apart (name_text others b) (codes "()") _ (NamesLabel-label others b l.0).0 none_apart e)
+  text_alike nil (leaf m y u) k l e = absurd (literal_apart y (codes "()") _ none_apart e)
+  text_alike (elem n a c t) nil k l e =
+      absurd (name_apart (name_text names a) (codes "()") _ (NamesLabel-label names a k.0).0 none_apart (sym e))
+  text_alike (leaf n x t) nil k l e = absurd (literal_apart x (codes "()") _ none_apart (sym e))
+  text_alike (elem n a c t) (elem m b d u) k l e =
+      trees_alone names others (elem n a c t) (elem m b d u) k l e
+  text_alike (elem n a c t) (leaf m y u) k l e =
+      trees_alone names others (elem n a c t) (leaf m y u) k l e
+  text_alike (leaf n x t) (elem m b d u) k l e =
+      trees_alone names others (leaf n x t) (elem m b d u) k l e
+  text_alike (leaf n x t) (leaf m y u) k l e =
+      trees_alone names others (leaf n x t) (leaf m y u) k l e
+
+-- forests over one table that are alike are one
+alike_same : (names : List (List ℕ)) → IsTable names → {v w : Plain} → Alike names names v w → EachLabel (NamesLabel names) v → EachLabel (NamesLabel names) w → v ≡ w
+alike_same names table alike_nil k l = refl
+alike_same names table (alike_elem {a} {b} label c r) k l =
+    let found = NamesLabel-found names b l.0 ∙ ap Some (sym label) in
+    let same = table.differ a b (name_text names a) (NamesLabel-found names a k.0) found in
+    let inside = alike_same names table c k.1 l.1 in
+    let rest = alike_same names table r k.2 l.2 in
+    (λ i. elem tt (same i) (inside i) (rest i))
+alike_same names table (alike_leaf atom r) k l = ap₂ (leaf tt) atom (alike_same names table r k l)
+
 -- where the text of each label is a label, the text of a forest is that of no other
 pub text_tells : TextTellsForest
-text_tells names table nil nil k l e = refl
-text_tells names table nil (elem m b d u) k l e =
-    absurd (name_apart (name_text names b) (codes "()") _ (NamesLabel-label names b l.0).0 none_apart e)
-text_tells names table nil (leaf m y u) k l e =
-    absurd (literal_apart y (codes "()") _ none_apart e)
-text_tells names table (elem n a c t) nil k l e =
-    absurd (name_apart (name_text names a) (codes "()") _ (NamesLabel-label names a k.0).0 none_apart (sym e))
-text_tells names table (leaf n x t) nil k l e =
-    absurd (literal_apart x (codes "()") _ none_apart (sym e))
-text_tells names table (elem n a c t) (elem m b d u) k l e =
-    trees_alone names table (elem n a c t) (elem m b d u) k l e
-text_tells names table (elem n a c t) (leaf m y u) k l e =
-    trees_alone names table (elem n a c t) (leaf m y u) k l e
-text_tells names table (leaf n x t) (elem m b d u) k l e =
-    trees_alone names table (leaf n x t) (elem m b d u) k l e
-text_tells names table (leaf n x t) (leaf m y u) k l e =
-    trees_alone names table (leaf n x t) (leaf m y u) k l e
+text_tells names table v w k l e = alike_same names table (text_alike names names v w k l e) k l
 
 -- the text stays where the table grows
 

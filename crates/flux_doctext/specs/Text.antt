@@ -1,15 +1,12 @@
 -- The canonical text of a forest, whose labels are read through a table of names.
-use Rattle.std.specs.Prelude.{◌≡◌, ℕ, List, [], ◌++◌, codes, IsUtf8, IsSomeAnd, slice_get, unwrap_or}
+use Rattle.std.specs.Prelude.{◌≡◌, ℕ, List, [], ◌++◌, codes, IsUtf8, IsSomeAnd, slice_get}
 use Rattle.flux_atom.specs.declared.atom.Atom.{Atom}
 use Rattle.flux_atom.specs.declared.atom.Atom.TheVariants.{Bool, Text}
 use Rattle.flux_atom.specs.Names.{IsLabel, IsTable}
+pub use Rattle.flux_atom.specs.Names.{name_text}
 use Rattle.flux_atom.specs.Literal.{literal}
 use Rattle.flux_trees.specs.Hedge.{Plain, nil, elem, leaf}
 use Rattle.flux_trees.specs.Each.{EachLabel, EachAtom}
-
--- the text of a name
-abbrev pub name_text : List (List ℕ) → ℕ → List ℕ
-name_text names a = unwrap_or (slice_get names a) []
 
 -- the comma between a tree and those behind it
 abbrev pub comma : Plain → List ℕ

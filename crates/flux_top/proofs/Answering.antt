@@ -1,15 +1,14 @@
 -- An answer is the only one, and there is none where a file is lacking.
-use Rattle.std.proofs.Common.{◌≡◌, ◌⊎◌, ◌<◌, ◌≤◌, ◌∙◌, inl, inr, refl, ap, sym, subst, ℕ, List, [], ◌∷◌, length, map, Some, None, arith}
-use Rattle.std.specs.Prelude.{Option, IsSome, IfSome, IsSomeAnd}
-use Rattle.flux_io.specs.Outside.{Held, file, Rose}
-use Rattle.flux_trees.specs.Hedge.{Plain}
+use Rattle.std.proofs.Common.{◌≡◌, ◌⊎◌, ◌≤◌, ◌∙◌, inl, inr, refl, ap, sym, subst, ℕ, List, [], length, Some, None, arith}
+use Rattle.std.specs.Prelude.{Option, IfSome}
+use Rattle.flux_io.specs.Outside.{Held, file}
 use Rattle.flux_top.specs.Words.{form}
 use Rattle.flux_top.specs.Lines.{status_of, line_of}
 use Rattle.flux_top.specs.Script.{DeletesPath}
 use Rattle.flux_top.specs.Document.{IsDocument}
 use Rattle.flux_top.specs.Answer.{NamesScript, NamesDocument, AsksDeletion, Answer, Lacking, usage, long_script, other_script, long_document, other_document, done, no_script, no_document}
 use Rattle.flux_top.specs.Clauses.{Answers, IsStatus, IsComplete}
-use Rattle.flux_top.specs.Prepare.{IsRefused, IsEarlyRefusal}
+use Rattle.flux_top.specs.Prepare.{IsEarlyRefusal}
 use Rattle.flux_top.specs.declared.status.Status.{Status}
 use Rattle.flux_top.specs.declared.status.Status.TheVariants.{Done, ReadFault, Memory}
 use Rattle.flux_top.specs.declared.refusal.Refusal.{Refusal}
@@ -24,25 +23,25 @@ module _ (held : Held) (words : List (List ℕ)) where
       let pair = some_same (List ℕ × List ℕ) (a, b) (c, d) (sym e ∙ f) in
       (ap (λ (p : List ℕ × List ℕ). p.0) pair, ap (λ (p : List ℕ × List ℕ). p.1) pair)
 
-  no_form : (a b : List ℕ) → form words ≡ Some (a, b) → form words ≡ None → ⊥
+  pub no_form : (a b : List ℕ) → form words ≡ Some (a, b) → form words ≡ None → ⊥
   no_form a b e f = let both : Some (a, b) ≡ None = sym e ∙ f in cc
 
-  script_one : (s t : List ℕ) → NamesScript held words s → NamesScript held words t → s ≡ t
+  pub script_one : (s t : List ℕ) → NamesScript held words s → NamesScript held words t → s ≡ t
   script_one s t a b =
       let names = same_names _ _ _ _ a.form_is b.form_is in
       let both : Some s ≡ Some t = sym a.is_there ∙ ap (file held) names.0 ∙ b.is_there in
       cc
 
-  document_one : (s t : List ℕ) → NamesDocument held words s → NamesDocument held words t → s ≡ t
+  pub document_one : (s t : List ℕ) → NamesDocument held words s → NamesDocument held words t → s ≡ t
   document_one s t a b =
       let names = same_names _ _ _ _ a.form_is b.form_is in
       let both : Some s ≡ Some t = sym a.is_there ∙ ap (file held) names.1 ∙ b.is_there in
       cc
 
-  asks_short : {steps : List (List ℕ)} (s : List ℕ) → AsksDeletion held words steps → NamesScript held words s → length s ≤ 1048576
+  pub asks_short : {steps : List (List ℕ)} (s : List ℕ) → AsksDeletion held words steps → NamesScript held words s → length s ≤ 1048576
   asks_short s asked named = subst (λ t. length t ≤ 1048576) (script_one asked.script s asked.named named) asked.within
 
-  asks_path : {steps : List (List ℕ)} (s : List ℕ) → AsksDeletion held words steps → NamesScript held words s → DeletesPath s steps
+  pub asks_path : {steps : List (List ℕ)} (s : List ℕ) → AsksDeletion held words steps → NamesScript held words s → DeletesPath s steps
   asks_path {steps} s asked named = subst (λ t. DeletesPath t steps) (script_one asked.script s asked.named named) asked.deletes
 
   script_there : {a b : List ℕ} (s : List ℕ) → form words ≡ Some (a, b) → file held a ≡ None → NamesScript held words s → ⊥

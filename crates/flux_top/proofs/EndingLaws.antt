@@ -6,12 +6,12 @@ use Rattle.std.proofs.lemmas.List.Elements.{All-head}
 use Rattle.std.specs.List.{AllPass, flat_map}
 use Rattle.flux_atom.specs.declared.atom.Atom.{Atom}
 use Rattle.flux_atom.specs.declared.atom.Atom.TheVariants.{Bool as Truth, Text}
-use Rattle.flux_atom.specs.Names.{continues_name, IsLabel}
+use Rattle.flux_atom.specs.Names.{continues_name, EndsName, IsLabel}
 use Rattle.flux_atom.specs.Literal.{quote, escaped, literal}
 use Rattle.flux_trees.specs.Hedge.{Plain, nil, elem, leaf}
 use Rattle.flux_doctext.specs.Text.{name_text, comma, trees_text, IsProper}
 use Rattle.flux_doctext.proofs.TextLaws.{NamesLabel-label}
-use Rattle.flux_doctext.proofs.Literals.{EndsName, name_end, literal_end, apart, IsName-continues, IsName-first}
+use Rattle.flux_doctext.proofs.Literals.{name_end, literal_end, apart, IsName-continues, IsName-first}
 use Rattle.flux_top.specs.declared.document.Expected.{Expected}
 use Rattle.flux_top.specs.declared.document.Expected.TheVariants.{Content, Tree, Behind}
 use Rattle.flux_top.specs.Reading.{AreProper, EachProper, closing, ending, CanEnd}

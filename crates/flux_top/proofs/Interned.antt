@@ -1,6 +1,6 @@
 -- Names that a table gives one after the other.
-use Rattle.std.proofs.Common.{◌≡◌, ◌<◌, ◌≤◌, ◌+◌, ◌∙◌, refl, ap, ap₂, sym, subst, ℕ, suc, zero, Bool, true, false, List, [], ◌∷◌, ◌++◌, length, map, take, Some, None, Bor, arith}
-use Rattle.std.specs.Prelude.{All, Option, slice_get, unwrap_or, bytes_eq, if◌then◌else◌}
+use Rattle.std.proofs.Common.{◌≡◌, ◌<◌, ◌≤◌, ◌+◌, ◌∙◌, refl, ap, ap₂, sym, subst, ℕ, suc, Bool, true, false, List, [], ◌∷◌, ◌++◌, length, map, take, Some, Bor, arith}
+use Rattle.std.specs.Prelude.{All, slice_get, unwrap_or, bytes_eq, if◌then◌else◌}
 use Rattle.std.specs.List.{list_any}
 use Rattle.std.proofs.Math.ListN.{get_or}
 use Rattle.std.proofs.lemmas.List.{length-append, length-map, append-nil, map-append, take_more, get_or-map}
@@ -8,7 +8,7 @@ use Rattle.std.proofs.lemmas.Option.{slice_get_within}
 use Rattle.std.proofs.lemmas.List.Elements.{All-append, All-cons, All-nil}
 use Rattle.flux_atom.specs.Names.{with_text}
 use Rattle.flux_doctext.specs.Text.{name_text}
-use Rattle.flux_top.proofs.ScriptLaws.{held}
+use Rattle.flux_top.proofs.Held.{held}
 use Rattle.flux_doctext.proofs.TextLaws.{slice_get-more}
 
 -- each name is one of the table's

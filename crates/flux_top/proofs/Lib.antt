@@ -1,9 +1,10 @@
-pub mod ScriptLaws
+pub mod Held
 pub mod PathLaws
 pub mod Interned
 pub mod Preparing
 pub mod Answering
 pub mod Pruned
+pub mod Unique
 pub mod StringLaws
 pub mod WrittenLaws
 pub mod EndingLaws

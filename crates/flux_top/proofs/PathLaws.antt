@@ -1,7 +1,7 @@
 -- The steps of a path, joined and cut.
-use Rattle.std.proofs.Common.{◌≡◌, ◌≢◌, ◌<◌, ◌≤◌, ◌⊎◌, ◌∙◌, inl, inr, refl, ap, sym, subst, ℕ, suc, zero, Bool, true, false, not, List, [], ◌∷◌, ◌++◌, length, IsTrue, Bor, map, arith}
-use Rattle.std.specs.Prelude.{All, nat_eq, ◌==◌, ◌||◌, codes, IsAscii, IsUtf8}
-use Rattle.std.specs.List.{AllPass, join_with_byte, slice_split}
+use Rattle.std.proofs.Common.{◌≡◌, ◌≢◌, ◌<◌, ◌≤◌, ◌∙◌, inl, inr, refl, ap, sym, subst, ℕ, suc, Bool, true, false, not, List, [], ◌∷◌, ◌++◌, length, Bor, map, arith}
+use Rattle.std.specs.Prelude.{All, ◌==◌, codes, IsAscii, IsUtf8}
+use Rattle.std.specs.List.{join_with_byte, slice_split}
 use Rattle.std.proofs.lemmas.List.Elements.{All-cons, All-nil, All-append, All-map}
 use Rattle.std.proofs.lemmas.List.Splits.{slice_split_none, slice_split_at, length-slice_split, join_with_byte-slice_split}
 use Rattle.std.proofs.lemmas.Bool.Decides.{nat_tests}
@@ -11,9 +11,9 @@ use Rattle.std.proofs.lemmas.Str.Ascii.{IsAscii-from_all}
 use Rattle.std.proofs.lemmas.List.{length-append, length-map, get_or-map}
 use Rattle.std.proofs.Math.ListN.{get_or}
 use Rattle.std.proofs.Math.Seq.{get_or-append_seam}
-use Rattle.flux_atom.specs.Names.{begins_name, continues_name, IsName, IsLabel}
+use Rattle.flux_atom.specs.Names.{begins_name, continues_name, IsName}
 use Rattle.flux_top.specs.Script.{IsStep, IsLine, EndsInNewline, DeletesPath, IsPathOf}
-use Rattle.flux_top.proofs.ScriptLaws.{held}
+use Rattle.flux_top.proofs.Held.{held}
 
 -- a byte of a name
 pub record IsNameByte (b : ℕ) : Type 0 where

@@ -1,10 +1,10 @@
 -- What each part of a run that comes before the write says of the answer.
-use Rattle.std.proofs.Common.{◌≡◌, ◌⊎◌, ◌<◌, ◌≤◌, ◌+◌, ◌∙◌, inl, inr, refl, ap, sym, subst, ℕ, List, [], ◌∷◌, ◌++◌, length, map, Some, None, arith}
-use Rattle.std.specs.Prelude.{Option, IsSome, IfSome, IsSomeAnd, All, slice_get, unwrap_or}
+use Rattle.std.proofs.Common.{◌≡◌, ◌⊎◌, ◌<◌, ◌≤◌, inl, inr, refl, sym, subst, ℕ, List, [], ◌∷◌, ◌++◌, length, map, Some, None, arith}
+use Rattle.std.specs.Prelude.{Option, IsSome, IfSome, slice_get, unwrap_or}
 use Rattle.std.proofs.lemmas.Option.{slice_get_within}
 use Rattle.std.proofs.lemmas.List.{get_or-map, length-map}
 use Rattle.std.proofs.Math.ListN.{get_or}
-use Rattle.flux_io.specs.Outside.{Held, file, Lacks, Rose}
+use Rattle.flux_io.specs.Outside.{Held, file, Rose}
 use Rattle.flux_atom.specs.Names.{IsName}
 use Rattle.flux_trees.specs.Hedge.{Plain}
 use Rattle.flux_doctext.specs.Text.{text, name_text}
@@ -14,11 +14,11 @@ use Rattle.flux_calculus.specs.Paths.{delete_on}
 use Rattle.flux_top.specs.Script.{DeletesPath}
 use Rattle.flux_top.specs.Document.{IsDocument}
 use Rattle.flux_top.specs.Words.{form}
-use Rattle.flux_top.specs.Answer.{script_limit, document_limit, NamesScript, NamesDocument, AsksDeletion, Answer, Lacking, long_script, other_script, long_document, other_document, done, no_script, no_document}
+use Rattle.flux_top.specs.Answer.{script_limit, document_limit, NamesScript, NamesDocument, AsksDeletion, long_script, other_script, long_document, other_document, done, no_script, no_document}
 use Rattle.flux_top.specs.Clauses.{IsOutput}
 use Rattle.flux_top.specs.Prepare.{IsFileRefusal, IsEarlyRefusal}
 use Rattle.flux_top.specs.declared.refusal.Refusal.{Refusal}
-use Rattle.flux_top.specs.declared.refusal.Refusal.TheVariants.{LongScript, OtherScript, LongDocument, OtherDocument, NoRead, NoMemory}
+use Rattle.flux_top.specs.declared.refusal.Refusal.TheVariants.{LongScript, OtherScript, LongDocument, OtherDocument, NoMemory}
 use Rattle.flux_top.proofs.Interned.{Within, path-more}
 
 pub rose_later : (a b c : ℕ) → a ≤ b → Rose b c → Rose a c

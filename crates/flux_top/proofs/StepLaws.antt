@@ -7,13 +7,12 @@ use Rattle.std.proofs.lemmas.List.{append-nil, length-append}
 use Rattle.std.specs.List.{AllPass, flat_map, list_any}
 use Rattle.flux_atom.specs.declared.atom.Atom.{Atom}
 use Rattle.flux_atom.specs.declared.atom.Atom.TheVariants.{Bool as Truth, Text}
-use Rattle.flux_atom.specs.Names.{continues_name, IsLabel, with_text}
+use Rattle.flux_atom.specs.Names.{continues_name, EndsName, IsLabel, with_text}
 use Rattle.flux_atom.specs.Literal.{quote, escaped, literal}
 use Rattle.flux_trees.specs.Hedge.{nil, leaf}
 use Rattle.flux_trees.specs.Draft.{depth, add, begin, end}
 use Rattle.flux_trees.proofs.DraftLaws.{depth-add, depth-begin, depth-end}
 use Rattle.flux_doctext.specs.Text.{IsProper}
-use Rattle.flux_doctext.proofs.Literals.{EndsName}
 use Rattle.flux_top.specs.declared.document.Expected.{Expected}
 use Rattle.flux_top.specs.declared.document.Expected.TheVariants.{Content, Tree, Behind}
 use Rattle.flux_top.specs.Reading.{PlainDraft, IsReading, CanEnd, IsStep}

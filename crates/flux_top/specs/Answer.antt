@@ -1,5 +1,5 @@
 -- What the program answers, where the folder tells what it holds.
-use Rattle.std.specs.Prelude.{◌≡◌, ◌⊎◌, ◌<◌, ◌≤◌, ℕ, List, [], ◌∷◌, ◌++◌, length, map, Option, Some, None, IsSome}
+use Rattle.std.specs.Prelude.{◌≡◌, ◌<◌, ◌≤◌, ℕ, List, [], ◌∷◌, ◌++◌, length, map, Some, None}
 use Rattle.flux_io.specs.Outside.{Held, file}
 use Rattle.flux_trees.specs.Hedge.{Plain}
 use Rattle.flux_doctext.specs.Text.{text, name_text}
@@ -12,7 +12,6 @@ use Rattle.flux_top.specs.Script.{DeletesPath}
 use Rattle.flux_top.specs.Document.{IsDocument}
 use Rattle.flux_top.specs.declared.status.Status.{Status}
 use Rattle.flux_top.specs.declared.status.Status.TheVariants.{Done}
-use Rattle.flux_top.specs.declared.refusal.Refusal.{Refusal}
 use Rattle.flux_top.specs.declared.refusal.Refusal.TheVariants.{WrongWords, LongScript, OtherScript, LongDocument, OtherDocument}
 
 -- the most bytes of a script, and of a document

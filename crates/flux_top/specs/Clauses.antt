@@ -1,5 +1,5 @@
 -- What the top call promises of its status, its output and its line.
-use Rattle.std.specs.Prelude.{◌≡◌, ◌⊎◌, ◌<◌, ℕ, List, [], ◌++◌, length, take, Option, Some, None, IsSome, IfSome, IsSomeAnd}
+use Rattle.std.specs.Prelude.{◌≡◌, ◌⊎◌, ◌<◌, ℕ, List, [], length, take, Option, IsSome, IfSome}
 use Rattle.std.specs.Io.KnownBytes.{append_known}
 use Rattle.flux_io.specs.Outside.{Held}
 use Rattle.flux_top.specs.Words.{form}

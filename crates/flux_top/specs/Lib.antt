@@ -4,5 +4,6 @@ pub mod Reading
 pub mod Words
 pub mod Lines
 pub mod Answer
+pub mod Unique
 pub mod Clauses
 pub mod Prepare

@@ -2,16 +2,7 @@
 use Rattle.std.specs.Prelude.{◌≡◌, ◌⊎◌, ◌≤◌, ℕ, List, [], ◌∷◌, ◌++◌, length, All, Contains, codes}
 use Rattle.std.specs.List.{join_with_byte}
 use Rattle.flux_atom.specs.Names.{IsLabel}
-
--- the words of the language, which no label of a path may be
-abbrev pub reserved : List (List ℕ)
-reserved =
-    codes "TYPE" ∷ codes "PROCEDURE" ∷ codes "INPUT" ∷ codes "OUTPUT" ∷ codes "DO" ∷ codes "SKIP"
-    ∷ codes "INSERT" ∷ codes "BEFORE" ∷ codes "AFTER" ∷ codes "AS" ∷ codes "FIRST" ∷ codes "LAST"
-    ∷ codes "INTO" ∷ codes "VALUE" ∷ codes "DELETE" ∷ codes "FROM" ∷ codes "RENAME" ∷ codes "TO"
-    ∷ codes "REPLACE" ∷ codes "IN" ∷ codes "WITH" ∷ codes "UPDATE" ∷ codes "BY" ∷ codes "IF" ∷ codes "THEN"
-    ∷ codes "ELSE" ∷ codes "LET" ∷ codes "CALL" ∷ codes "WHERE" ∷ codes "for" ∷ codes "in" ∷ codes "return"
-    ∷ codes "let" ∷ codes "if" ∷ codes "then" ∷ codes "else" ∷ codes "true" ∷ codes "false" ∷ []
+use Rattle.flux_atom.specs.Reserved.{reserved}
 
 -- a step of a path: a label that isn't a reserved word
 abbrev pub IsStep : List ℕ → Type 0

@@ -1,18 +1,17 @@
 // A reader of documents: the canonical text of a forest, and an optional newline.
 ghost use Rattle.std.specs.Prelude.{◌≡◌, ◌≢◌, ◌↔◌, ◌+◌, ◌-◌, ◌^◌, ◌<◌, ◌≤◌, ℕ, Bool, List, [], ◌∷◌, ◌++◌, length, codes, IsTrue, IfOk, IfSome, IfNone};
 ghost use Rattle.std.specs.List.{AllPass};
-ghost use Rattle.flux_atom.specs.Names.{continues_name, IsTable};
+ghost use Rattle.flux_atom.specs.Names.{continues_name, EndsName, IsTable};
 ghost use Rattle.flux_atom.specs.Literal.{quote, literal};
 ghost use Rattle.flux_trees.specs.Hedge.{Plain, nil};
 ghost use Rattle.flux_trees.specs.Draft.{done, depth};
 ghost use Rattle.flux_doctext.specs.Text.{trees_text};
-ghost use Rattle.flux_doctext.proofs.Literals.{EndsName};
 ghost use Rattle.flux_top.specs.Document.{IsDocument};
 ghost use Rattle.flux_top.specs.Reading.{AreProper, CanEnd, HasGrown, IsStep};
 
 use crate::quoted::{behind_byte, read_quoted};
 use crate::script::without_newline;
-use flux_atom::{Atom, Names, is_label};
+use flux_atom::{Atom, Names, can_continue, is_label};
 use flux_forest::Forest;
 use std::alloc::{AllocError, Global};
 use std::str;
@@ -232,12 +231,6 @@ fn split_name(rest: &[u8]) -> (&[u8], &[u8])
 {
     let length = rest.iter().position(|&byte| !can_continue(byte));
     rest.split_at(length.unwrap_or(rest.len()))
-}
-
-fn can_continue(byte: u8) -> bool
-    ensures { result ≡ continues_name byte }
-{
-    byte.is_ascii_alphanumeric() || byte == b'_' || byte == b'.' || byte == b'-'
 }
 
 // An element, of which the name and the bracket are read.

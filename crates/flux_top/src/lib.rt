@@ -3,6 +3,7 @@
 
 mod delete;
 mod document;
+mod laws;
 mod path;
 mod quoted;
 mod refusal;
@@ -11,6 +12,7 @@ mod script;
 mod status;
 mod words;
 
+pub use laws::answer_is_unique;
 pub use run::flux;
 pub use status::Status;
 

@@ -1,9 +1,9 @@
 // Scripts of the form that is built so far: `DELETE` and a path of labels.
-ghost use Rattle.std.specs.Prelude.{◌≡◌, ◌↔◌, ℕ, List, All, Any, Contains, IsTrue, IfOk, IfSome, IfNone, map, ◌==◌};
+ghost use Rattle.std.specs.Prelude.{◌≡◌, ◌↔◌, ℕ, List, All, IsTrue, IfOk, IfSome, IfNone, map, ◌==◌};
 ghost use Rattle.std.specs.List.{slice_split};
-ghost use Rattle.flux_top.specs.Script.{reserved, IsStep, IsLine, EndsInNewline, DeletesPath, IsPathOf};
+ghost use Rattle.flux_top.specs.Script.{IsStep, IsLine, EndsInNewline, DeletesPath, IsPathOf};
 
-use flux_atom::is_label;
+use flux_atom::{is_label, is_reserved};
 use std::alloc::{AllocError, Global};
 use std::str;
 
@@ -60,62 +60,4 @@ fn is_step(text: &str) -> bool
     ensures { IsTrue result ↔ IsStep text.now }
 {
     is_label(text) && !is_reserved(text)
-}
-
-fn is_among(words: &[&str], word: &str) -> bool
-    ensures { IsTrue result ↔ Any (λ held. held.now ≡ word.now) words.now }
-{
-    words.iter().any(|held| *held == word)
-}
-
-// The words of the language. Case counts.
-fn reserved_words() -> [&'static str; 38]
-    ensures { map (λ word. word.now) result ≡ reserved }
-{
-    [
-        "TYPE",
-        "PROCEDURE",
-        "INPUT",
-        "OUTPUT",
-        "DO",
-        "SKIP",
-        "INSERT",
-        "BEFORE",
-        "AFTER",
-        "AS",
-        "FIRST",
-        "LAST",
-        "INTO",
-        "VALUE",
-        "DELETE",
-        "FROM",
-        "RENAME",
-        "TO",
-        "REPLACE",
-        "IN",
-        "WITH",
-        "UPDATE",
-        "BY",
-        "IF",
-        "THEN",
-        "ELSE",
-        "LET",
-        "CALL",
-        "WHERE",
-        "for",
-        "in",
-        "return",
-        "let",
-        "if",
-        "then",
-        "else",
-        "true",
-        "false",
-    ]
-}
-
-fn is_reserved(word: &str) -> bool
-    ensures { IsTrue result ↔ Contains reserved word.now }
-{
-    is_among(&reserved_words(), word)
 }

@@ -1,8 +1,8 @@
-use Rattle.std.proofs.Common.{◌≡◌, ◌≢◌, ◌+◌, ◌<◌, ◌==◌, true, false, ◌++◌, List, [], ◌∷◌, ℕ, length, length-append, get_or, map, sym, ap, subst, ◌∙◌, arith}
+use Rattle.std.proofs.Common.{◌≡◌, ◌≢◌, ◌+◌, ◌==◌, true, false, ◌++◌, List, [], ◌∷◌, ℕ, length, length-append, get_or, map, sym, ap, subst, ◌∙◌, arith}
 use Rattle.std.proofs.lemmas.List.{map_push, length-map, nil_from_length}
 use Rattle.std.proofs.lemmas.Bool.Decides.{nat_tests}
-use Rattle.flux_trees.specs.Hedge.{Plain, nil, elem, leaf, content, others, first, size}
-use Rattle.flux_trees.specs.Draft.{done, add, begin}
+use Rattle.flux_trees.specs.Hedge.{Plain, nil, elem, content, others, first, size}
+use Rattle.flux_trees.specs.Draft.{done, add}
 use Rattle.flux_forest.specs.declared.view.View.{View}
 use Rattle.flux_forest.specs.View.{forest_of}
 use Rattle.flux_top.proofs.Pruned.{PlainDraft, IsPruning, pruned, pruned_derives, pruning_starts, pruning_ends, end_step, atom_step, other_step, last_step, inner_step, steps_left, steps_left-push}

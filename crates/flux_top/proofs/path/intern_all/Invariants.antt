@@ -1,6 +1,6 @@
 use Rattle.std.proofs.Common.{◌≤◌, ◌+◌, length, map, take}
 use Rattle.flux_atom.specs.Names.{IsTable}
-use Rattle.flux_top.proofs.ScriptLaws.{held}
+use Rattle.flux_top.proofs.Held.{held}
 use Rattle.flux_top.proofs.Interned.{AreInterned}
 use Rattle.flux_top.proofs.path.intern_all.Given as goal
 

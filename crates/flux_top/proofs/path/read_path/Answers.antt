@@ -1,7 +1,7 @@
 use Rattle.std.proofs.Common.{arith, ap, subst, sym, length, map, ◌≤◌, All, Bor, List, ℕ}
 use Rattle.flux_atom.specs.Names.{IsName}
 use Rattle.flux_top.specs.Script.{DeletesPath}
-use Rattle.flux_top.proofs.ScriptLaws.{held}
+use Rattle.flux_top.proofs.Held.{held}
 use Rattle.flux_top.proofs.PathLaws.{steps_are_names, texts_length}
 use Rattle.flux_top.proofs.path.read_path.Goals as goal
 use Rattle.flux_top.proofs.path.read_path.Goals.{After-as_slice}

@@ -1,8 +1,8 @@
-use Rattle.std.proofs.Common.{◌≡◌, ◌<◌, ◌≤◌, ◌∙◌, sym, ap, subst, Some, List, ℕ, length, map, arith}
+use Rattle.std.proofs.Common.{◌≡◌, ◌<◌, ◌≤◌, sym, ap, subst, Some, List, ℕ, length, map, arith}
 use Rattle.std.specs.Prelude.{Option, IfSome}
 use Rattle.std.proofs.lemmas.Result.{err_from_is_err_and}
 use Rattle.flux_io.specs.Outside.{Held, file}
-use Rattle.flux_trees.specs.Draft.{Draft, done, outer}
+use Rattle.flux_trees.specs.Draft.{Draft, outer}
 use Rattle.flux_trees.specs.Each.{EachLabel}
 use Rattle.flux_doctext.specs.Text.{name_text}
 use Rattle.flux_doctext.proofs.TextLaws.{labels_within}
@@ -11,8 +11,7 @@ use Rattle.flux_calculus.specs.Derives.{Derives}
 use Rattle.flux_calculus.specs.Paths.{delete_on}
 use Rattle.flux_top.specs.Words.{texts}
 use Rattle.flux_top.specs.Script.{DeletesPath}
-use Rattle.flux_top.specs.Answer.{AsksDeletion}
-use Rattle.flux_top.proofs.Preparing.{rose_later, refusal_later, early_script, early_path, early_document, early_forest, asks, prepared, steps_stay, steps_some}
+use Rattle.flux_top.proofs.Preparing.{rose_later, refusal_later, early_script, early_path, early_document, early_forest, asks, prepared, steps_stay}
 use Rattle.flux_top.proofs.run.prepare.Goals as goal
 use Rattle.flux_top.proofs.run.prepare.Goals.{After-as_slice, In_ok-path, In_ok-document, In_ok-forest}
 

@@ -1,4 +1,4 @@
-use Rattle.std.proofs.Common.{◌≡◌, ◌<◌, ◌∙◌, ap, sym, subst, ℕ, length}
+use Rattle.std.proofs.Common.{◌≡◌, ◌<◌, ◌∙◌, ap, sym, subst, length}
 use Rattle.flux_trees.specs.Hedge.{Plain}
 use Rattle.flux_trees.specs.Draft.{outer}
 use Rattle.flux_trees.specs.Each.{EachLabel}

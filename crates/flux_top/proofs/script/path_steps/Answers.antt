@@ -1,9 +1,9 @@
 use Rattle.std.proofs.Common.{refl, ◌≡◌, ◌∙◌, ap, sym, subst, List, ℕ, All, Bor, map, true, false}
 use Rattle.std.specs.List.{slice_split}
 use Rattle.std.specs.Prelude.{◌==◌}
-use Rattle.flux_top.specs.Script.{IsStep, IsPathOf}
+use Rattle.flux_top.specs.Script.{IsStep}
 use Rattle.flux_top.proofs.PathLaws.{cut_ascii, cut_found, cut_steps, steps_held, held_steps}
-use Rattle.flux_top.proofs.ScriptLaws.{held}
+use Rattle.flux_top.proofs.Held.{held}
 use Rattle.flux_top.proofs.script.path_steps.Goals as goal
 use Rattle.flux_top.proofs.script.path_steps.Goals.{In_ok-steps}
 
