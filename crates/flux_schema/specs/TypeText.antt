@@ -1,0 +1,63 @@
+-- The text of a type, whose labels and names are read through a table of names.
+use Rattle.std.specs.Prelude.{◌<◌, ℕ, Bool, true, false, List, [], ◌++◌, codes, slice_get, unwrap_or, IsSomeAnd, if◌then◌else◌}
+use Rattle.std.specs.Option.{option_map}
+use Rattle.flux_atom.specs.declared.atom.AtomKind.{AtomKind}
+use Rattle.flux_atom.specs.declared.atom.AtomKind.TheVariants as kind
+use Rattle.flux_schema.specs.Ty.{Ty, empty, atom, element, seq, alt, star, named}
+use Rattle.flux_schema.specs.Definitions.{Definitions}
+pub use Rattle.flux_atom.specs.Names.{name_text}
+use Rattle.flux_atom.specs.Reserved.{is_reserved}
+
+-- between quotes where it is a reserved word
+abbrev pub quoted : List ℕ → List ℕ
+quoted text = if is_reserved text then codes "'" ++ text ++ codes "'" else text
+
+-- the name of a definition
+abbrev pub definition_text : List (List ℕ) → Definitions → ℕ → List ℕ
+definition_text names defs x = unwrap_or (option_map (λ d. name_text names d.name) (slice_get defs x)) []
+
+abbrev pub kind_text : AtomKind → List ℕ
+kind_text kind.Bool = codes "bool"
+kind_text kind.Text = codes "string"
+
+abbrev pub in_parentheses : List ℕ → List ℕ
+in_parentheses text = codes "(" ++ text ++ codes ")"
+
+-- a type that has parentheses inside a sequence: a choice
+abbrev pub is_choice : Ty → Bool
+is_choice (alt t u) = true
+is_choice _ = false
+
+-- a type that has parentheses inside a star: a choice or a sequence
+abbrev pub is_list : Ty → Bool
+is_list (seq t u) = true
+is_list (alt t u) = true
+is_list _ = false
+
+abbrev pub is_empty : Ty → Bool
+is_empty empty = true
+is_empty _ = false
+
+-- with parentheses where they are wanted
+abbrev pub enclosed : Bool → List ℕ → List ℕ
+enclosed wanted text = if wanted then in_parentheses text else text
+
+-- the text of a type as it is; the content of an element may be left out where it is empty
+abbrev pub text_of : List (List ℕ) → Definitions → Ty → List ℕ
+text_of names defs empty = codes "()"
+text_of names defs (atom k) = kind_text k
+text_of names defs (element n t) = quoted (name_text names n) ++ codes "[" ++ (if is_empty t then [] else text_of names defs t) ++ codes "]"
+text_of names defs (seq t u) = enclosed (is_choice t) (text_of names defs t) ++ codes "," ++ enclosed (is_choice u) (text_of names defs u)
+text_of names defs (alt t u) = text_of names defs t ++ codes "|" ++ text_of names defs u
+text_of names defs (star t) = enclosed (is_list t) (text_of names defs t) ++ codes "*"
+text_of names defs (named x) = definition_text names defs x
+
+-- each label of the type, and each name of a definition that it names, is one of n names of a table
+abbrev pub IsWritable : ℕ → Definitions → Ty → Type 0
+IsWritable n defs empty = Unit {0}
+IsWritable n defs (atom k) = Unit {0}
+IsWritable n defs (element m t) = (m < n) × IsWritable n defs t
+IsWritable n defs (seq t u) = IsWritable n defs t × IsWritable n defs u
+IsWritable n defs (alt t u) = IsWritable n defs t × IsWritable n defs u
+IsWritable n defs (star t) = IsWritable n defs t
+IsWritable n defs (named x) = IsSomeAnd (slice_get defs x) (λ d. d.name < n)

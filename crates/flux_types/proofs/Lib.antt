@@ -1,0 +1,5 @@
+pub mod Variants
+pub mod KeptLaws
+pub mod SearchLaws
+pub mod DefsLaws
+pub mod TableLaws

@@ -1,0 +1,4 @@
+pub mod Read
+pub mod Kept
+pub mod Faults
+pub mod Search

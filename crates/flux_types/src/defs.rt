@@ -1,0 +1,98 @@
+// Good definitions, and the one tree that a type stands for.
+ghost use Rattle.std.specs.Prelude.{◌≡◌, ◌<◌, ℕ, Some, length, slice_get, IfSome, IfNone};
+ghost use Rattle.std.specs.Option.{option_map};
+ghost use Rattle.flux_schema.specs.Definitions.{body_of, IsGood};
+ghost use Rattle.flux_schema.specs.Fits.{MembershipComputes};
+ghost use Rattle.flux_schema.specs.Single.{Single, IsNotSingle};
+ghost use Rattle.flux_types.specs.Read.{ty_of};
+ghost use Rattle.flux_types.specs.Kept.{definitions_of, AreKept, IsKnownAtTop};
+
+use crate::Ty;
+use flux_atom::Name;
+use std::marker::Model;
+
+// A name and the type that it stands for.
+#[derive(Drop)]
+pub(crate) struct Kept {
+    pub(crate) name: Name,
+    pub(crate) body: Ty,
+}
+
+/// Named types, each with its place as its index: their names differ, the indices in their bodies
+/// are their own, and no name reaches itself without passing an element.
+#[derive(Drop)]
+pub struct Defs {
+    kept: Vec<Kept>,
+}
+
+impl Model for Defs {
+    ghost use Rattle.flux_schema.specs.Definitions.{Definitions};
+    ghost use Rattle.flux_schema.specs.DefinitionCodes.{definitions_code};
+
+    ghost Value = { Definitions };
+
+    ghost coded = { definitions_code };
+
+    ghost use Rattle.flux_types.specs.Kept.{definitions_of, AreKept};
+
+    ghost view = { λ d. definitions_of d.kept.items };
+
+    ghost invariant = { λ d. AreKept (definitions_of d.kept.items) };
+}
+
+impl Defs {
+    pub(crate) fn over(kept: Vec<Kept>) -> Defs
+        requires { AreKept (definitions_of kept.items) }
+        ensures { result ≡ definitions_of kept.items }
+    {
+        Defs { kept }
+    }
+
+    /// How many there are: the indices are the numbers below it.
+    pub fn len(&self) -> u32
+        ensures count { result ≡ length self.now }
+        ensures kept { AreKept self.now }
+    {
+        self.kept.len() as u32
+    }
+
+    pub(crate) fn name(&self, index: u32) -> Name
+        requires { index < length self.now }
+        ensures { option_map (λ d. d.name) (slice_get self.now index) ≡ Some result }
+    {
+        self.kept[index as usize].name
+    }
+
+    /// The body of a definition.
+    pub fn unfold(&self, index: u32) -> &Ty
+        requires { index < length self.now }
+        ensures body { body_of self.now index ≡ Some (ty_of result.now) }
+        ensures good { IsGood self.now }
+    {
+        &self.kept[index as usize].body
+    }
+}
+
+/// The atom or the element that a type of one tree stands for.
+pub fn single<'t>(defs: &'t Defs, ty: &'t Ty) -> Option<&'t Ty>
+    requires { IsKnownAtTop defs.now (ty_of ty.now) }
+    ensures found { IfSome result (λ one. Single defs.now (ty_of ty.now) (ty_of one.now)) }
+    ensures none { IfNone result (IsNotSingle defs.now (ty_of ty.now)) }
+{
+    let mut ty = ty;
+    while let Ty::Named(index) = ty {
+        ty = defs.unfold(*index);
+    }
+    match ty {
+        Ty::Atom(_) | Ty::Elem(_, _) => Some(ty),
+        _ => None,
+    }
+}
+
+/// Whether a forest is a member of a type can be computed: a test that unfolds each name at most
+/// once for each level of the forest answers it. A law, and no code.
+pub fn membership_computes(defs: &Defs)
+    ensures { MembershipComputes defs.now }
+{
+    let _kept = &defs.kept;
+}

@@ -1,0 +1,18 @@
+//! Types of forests: regular expressions with named definitions.
+#![tactic(auto)]
+
+mod defs;
+mod draft;
+mod search;
+mod text;
+mod tidied;
+mod ty;
+
+pub use defs::{Defs, membership_computes, single};
+pub use draft::{DefFault, Draft};
+pub use text::write_type;
+pub use tidied::tidy;
+pub use ty::{Ty, copy_of, height, size};
+
+#[cfg(test)]
+mod tests;
