@@ -2,3 +2,5 @@ pub mod Atom
 pub mod Literal
 pub mod Names
 pub mod Reserved
+pub mod Spelling
+pub mod TextSteps

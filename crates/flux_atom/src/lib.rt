@@ -7,6 +7,7 @@ mod literal;
 mod name;
 mod names;
 mod reserved;
+mod text;
 mod word;
 
 pub use atom::{Atom, AtomKind, copy, kind};
@@ -16,6 +17,7 @@ pub use name::Name;
 pub use names::Names;
 pub use reserved::is_reserved;
 pub use sqlite_items::{Boxed, Items};
+pub use text::TextState;
 pub use word::Word;
 
 #[cfg(test)]
