@@ -1,4 +1,6 @@
+mod Characters
 pub mod LiteralLaws
 mod ReservedLaws
 mod Runs
 mod Tables
+pub mod TextLaws
