@@ -1,9 +1,11 @@
 -- A string byte by byte, behind its opening quote. `IsItem` and `AreItems` are what it follows.
-use Rattle.std.specs.Prelude.{ℕ, ◌+◌, ◌-◌, ◌*◌, Bool, ◌||◌, ◌&&◌, nat_lt, ◌==◌, List, [], ◌∷◌, ◌++◌, Option, Some, None, encode_utf8, if◌then◌else◌}
+use Rattle.std.specs.Prelude.{◌≡◌, ℕ, ◌+◌, ◌-◌, ◌*◌, Bool, ◌||◌, ◌&&◌, nat_lt, ◌==◌, List, [], ◌∷◌, ◌++◌, Option, Some, None, encode_utf8, if◌then◌else◌}
 use Rattle.std.specs.Char.{digit_value, is_ascii_hexdigit}
 use lib.Utf8.{scalar}
 use Rattle.std.specs.Int.{is_in_range}
 use Rattle.flux_atom.specs.Literal.{quote, backslash, newline, tab}
+use Rattle.flux_atom.specs.declared.text.Taken.{Taken}
+use Rattle.flux_atom.specs.declared.text.Taken.TheVariants.{On, Closes, Misfits}
 use Rattle.flux_atom.specs.declared.text.TextState.{TextState}
 use Rattle.flux_atom.specs.declared.text.TextState.TheVariants.{Between, Character, Escape, Brace, Code}
 
@@ -83,3 +85,9 @@ read_text r (b ∷ bs) = and_read (read_on (text_step r.0 b) r.1) (λ s. read_te
 -- nothing is read yet
 abbrev pub no_text : TextRead
 no_text = (Between, [])
+
+-- what a reader that takes a byte did with it, and what it then has read
+abbrev pub Takes : Taken → TextRead → ℕ → TextRead → Type 0
+Takes On r b s = read_on (text_step r.0 b) r.1 ≡ Some s
+Takes Closes r b s = (text_step r.0 b ≡ closes) × (s ≡ r)
+Takes Misfits r b s = (text_step r.0 b ≡ misfits) × (s ≡ r)

@@ -17,7 +17,7 @@ pub use name::Name;
 pub use names::Names;
 pub use reserved::is_reserved;
 pub use sqlite_items::{Boxed, Items};
-pub use text::TextState;
+pub use text::{Taken, TextReader, TextState};
 pub use word::Word;
 
 #[cfg(test)]
