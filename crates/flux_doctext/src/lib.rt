@@ -2,6 +2,7 @@
 #![tactic(auto)]
 
 mod laws;
+mod sign;
 mod write;
 
 pub use laws::text_tells_forest;

@@ -1,0 +1,196 @@
+-- A reader of documents, byte by byte. `Spells` is what it follows.
+use Rattle.std.specs.Prelude.{◌≡◌, ℕ, ◌+◌, ◌-◌, ◌≤◌, Bool, true, false, ◌&&◌, ◌==◌, List, [], ◌∷◌, ◌++◌, length, Option, Some, None, codes, bytes_eq, if◌then◌else◌}
+use Rattle.std.proofs.Common.{zero, suc}
+use Rattle.flux_atom.specs.declared.atom.Atom.{Atom}
+use Rattle.flux_atom.specs.declared.atom.Atom.TheVariants.{Bool as Truth, Text}
+use Rattle.flux_atom.specs.Names.{begins_name, continues_name, IsTable, with_text}
+use Rattle.flux_atom.specs.Literal.{quote}
+use Rattle.flux_atom.specs.TextSteps.{TextStep, on, closes, misfits, TextRead, text_step, no_text}
+use Rattle.flux_trees.specs.Hedge.{nil, leaf}
+use Rattle.flux_trees.specs.Draft.{Draft, depth, add, begin, end}
+use Rattle.flux_doctext.specs.declared.sign.Sign.{Sign}
+use Rattle.flux_doctext.specs.declared.sign.Sign.TheVariants.{Space, Comma, LeftBracket, RightBracket, LeftParen, RightParen, Quote, Letter, Digit, Other}
+use Rattle.flux_doctext.specs.Spells.{is_space}
+
+-- what a byte is, outside of strings
+abbrev pub sign : ℕ → Sign
+sign b =
+    if is_space b then Space else
+    if b == 44 then Comma else
+    if b == 91 then LeftBracket else
+    if b == 93 then RightBracket else
+    if b == 40 then LeftParen else
+    if b == 41 then RightParen else
+    if b == quote then Quote else
+    if begins_name b then Letter else
+    if continues_name b then Digit else Other
+
+-- where a reader is, with what it has read of the token that it is in
+pub data Shape : Type 0 where
+  -- a forest is expected, or nothing where an element is open
+  content : Shape
+  -- behind a comma: a tree is expected
+  next : Shape
+  -- in a name, or at its end
+  name : List ℕ → Shape
+  -- behind a label and white space
+  label : List ℕ → Shape
+  -- behind `(`, and behind `()`
+  opened : Shape
+  closed : Shape
+  -- in a string
+  string : TextRead → Shape
+  -- behind a tree
+  behind : Shape
+
+-- what a byte tells of the forest: a label stands here, an element with this label begins, an atom, the end of an element
+pub data Event : Type 0 where
+  learn : List ℕ → Event
+  enter : List ℕ → Event
+  push : Atom → Event
+  leave : Event
+
+-- where a byte leads, and what it tells; none where it fits nowhere
+abbrev pub Step : Type 0
+Step = Option (Shape × List Event)
+
+-- the same with an event before
+abbrev pub told : Event → Step → Step
+told e None = None
+told e (Some s) = Some (s.0, e ∷ s.1)
+
+abbrev pub tree_step : Shape → ℕ → Sign → Step
+tree_step stay b Space = Some (stay, [])
+tree_step stay b Quote = Some (string no_text, [])
+tree_step stay b Letter = Some (name (b ∷ []), [])
+tree_step stay b _ = None
+
+-- the end of an element, where one is open
+abbrev pub close_step : ℕ → Step
+close_step zero = None
+close_step (suc n) = Some (behind, leave ∷ [])
+
+abbrev pub content_step : ℕ → ℕ → Sign → Step
+content_step n b RightBracket = close_step n
+content_step n b LeftParen = Some (opened, [])
+content_step n b s = tree_step content b s
+
+abbrev pub opened_step : Sign → Step
+opened_step Space = Some (opened, [])
+opened_step RightParen = Some (closed, [])
+opened_step _ = None
+
+abbrev pub closed_step : ℕ → Sign → Step
+closed_step n Space = Some (closed, [])
+closed_step n RightBracket = close_step n
+closed_step n _ = None
+
+abbrev pub behind_step : ℕ → Sign → Step
+behind_step n Space = Some (behind, [])
+behind_step n Comma = Some (next, [])
+behind_step n RightBracket = close_step n
+behind_step n _ = None
+
+abbrev pub label_step : List ℕ → Sign → Step
+label_step text Space = Some (label text, [])
+label_step text LeftBracket = Some (content, enter text ∷ [])
+label_step text _ = None
+
+-- the atom that a name is, if it is one
+abbrev pub truth_of : List ℕ → Option Atom
+truth_of text =
+    if bytes_eq text (codes "true") then Some (Truth true) else
+    if bytes_eq text (codes "false") then Some (Truth false) else None
+
+-- a byte behind a name
+abbrev pub named_step : List ℕ → Option Atom → ℕ → Sign → Step
+named_step text (Some atom) n s = told (push atom) (behind_step n s)
+named_step text None n s = told (learn text) (label_step text s)
+
+abbrev pub name_step : List ℕ → ℕ → ℕ → Sign → Step
+name_step text n b Letter = Some (name (text ++ b ∷ []), [])
+name_step text n b Digit = Some (name (text ++ b ∷ []), [])
+name_step text n b s = named_step text (truth_of text) n s
+
+abbrev pub string_step : TextRead → TextStep → Step
+string_step r (on state added) = Some (string (state, r.1 ++ added), [])
+string_step r closes = Some (behind, push (Text r.1) ∷ [])
+string_step r misfits = None
+
+-- a byte where so many elements are open
+abbrev pub step : Shape → ℕ → ℕ → Step
+step content n b = content_step n b (sign b)
+step next n b = tree_step next b (sign b)
+step (name text) n b = name_step text n b (sign b)
+step (label text) n b = label_step text (sign b)
+step opened n b = opened_step (sign b)
+step closed n b = closed_step n (sign b)
+step (string r) n b = string_step r (text_step r.0 b)
+step behind n b = behind_step n (sign b)
+
+-- a text may end behind a name that is an atom
+abbrev pub end_named : Option Atom → Option (List Event)
+end_named (Some atom) = Some (push atom ∷ [])
+end_named None = None
+
+-- what the end of the text tells; none where the text may not end
+abbrev pub end_step : Shape → Option (List Event)
+end_step (name text) = end_named (truth_of text)
+end_step closed = Some []
+end_step behind = Some []
+end_step _ = None
+
+-- the number of a text in a table that holds it
+abbrev pub number_of : List (List ℕ) → List ℕ → ℕ
+number_of [] text = 0
+number_of (n ∷ names) text = if bytes_eq text n then 0 else suc (number_of names text)
+
+abbrev pub PlainDraft : Type 0
+PlainDraft = Draft (Unit {0})
+
+-- what events make of a forest that is being written, its labels numbered by a table
+abbrev pub draft_after : List (List ℕ) → List Event → PlainDraft → PlainDraft
+draft_after names [] d = d
+draft_after names (learn text ∷ es) d = draft_after names es d
+draft_after names (enter text ∷ es) d = draft_after names es (begin d tt (number_of names text))
+draft_after names (push atom ∷ es) d = draft_after names es (add d (leaf tt atom nil))
+draft_after names (leave ∷ es) d = draft_after names es (end d)
+
+-- what they make of a table
+abbrev pub names_after : List Event → List (List ℕ) → List (List ℕ)
+names_after [] names = names
+names_after (learn text ∷ es) names = names_after es (with_text names text)
+names_after (_ ∷ es) names = names_after es names
+
+-- how many elements are open then
+abbrev pub depth_after : List Event → ℕ → ℕ
+depth_after [] n = n
+depth_after (enter text ∷ es) n = depth_after es (suc n)
+depth_after (leave ∷ es) n = depth_after es (n - 1)
+depth_after (_ ∷ es) n = depth_after es n
+
+-- whether a text may go on so, and end
+abbrev pub and_fits : Step → ℕ → (Shape → ℕ → Bool) → Bool
+and_fits None n go = false
+and_fits (Some s) n go = go s.0 (depth_after s.1 n)
+
+abbrev pub end_fits : Option (List Event) → ℕ → Bool
+end_fits None n = false
+end_fits (Some es) n = n == 0
+
+abbrev pub fits : Shape → ℕ → List ℕ → Bool
+fits s n [] = end_fits (end_step s) n
+fits s n (b ∷ bs) = and_fits (step s n b) n (λ t m. fits t m bs)
+
+-- the forest that a text gives so, over a table that has its labels
+abbrev pub and_read : List (List ℕ) → Step → PlainDraft → (Shape → PlainDraft → Option PlainDraft) → Option PlainDraft
+and_read names None d go = None
+and_read names (Some s) d go = go s.0 (draft_after names s.1 d)
+
+abbrev pub end_read : List (List ℕ) → Option (List Event) → PlainDraft → Option PlainDraft
+end_read names None d = None
+end_read names (Some es) d = Some (draft_after names es d)
+
+abbrev pub read : List (List ℕ) → Shape → PlainDraft → List ℕ → Option PlainDraft
+read names s d [] = end_read names (end_step s) d
+read names s d (b ∷ bs) = and_read names (step s (depth d) b) d (λ t e. read names t e bs)
