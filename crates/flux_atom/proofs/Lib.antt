@@ -4,3 +4,4 @@ mod ReservedLaws
 mod Runs
 mod Tables
 pub mod TextLaws
+mod TextRuns

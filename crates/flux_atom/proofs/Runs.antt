@@ -16,16 +16,17 @@ escaped-plain b e =
     escaped-other b (eqb-false b quote other.0) (eqb-false b backslash rest.0) (controls newline refl) (controls tab refl)
     ∙ rw rest.1 refl
 
--- where a text has its first escaped byte, or ends
-pub position_or_len-within : (xs : List ℕ) → position_or_len has_escape xs ≤ length xs
-position_or_len-within xs = prefix_len-le-length (λ x. not (has_escape x)) xs
+-- where a list has its first byte of a kind, or ends
+module _ (p : ℕ → Bool) where
+  pub position_or_len-within : (xs : List ℕ) → position_or_len p xs ≤ length xs
+  position_or_len-within xs = prefix_len-le-length (λ x. not (p x)) xs
 
-pub unwrap_or-position : (xs : List ℕ) → unwrap_or (position has_escape xs) (length xs) ≡ position_or_len has_escape xs
-unwrap_or-position xs = by (nat_lt (position_or_len has_escape xs) (length xs)) refl
-  where
-    by : (t : Bool) → nat_lt (position_or_len has_escape xs) (length xs) ≡ t → unwrap_or (position has_escape xs) (length xs) ≡ position_or_len has_escape xs
-    by true e = rw e refl
-    by false e = rw e (omega (arith, ltb-false (position_or_len has_escape xs) (length xs) e, position_or_len-within xs))
+  pub unwrap_or-position : (xs : List ℕ) → unwrap_or (position p xs) (length xs) ≡ position_or_len p xs
+  unwrap_or-position xs = by (nat_lt (position_or_len p xs) (length xs)) refl
+    where
+      by : (t : Bool) → nat_lt (position_or_len p xs) (length xs) ≡ t → unwrap_or (position p xs) (length xs) ≡ position_or_len p xs
+      by true e = rw e refl
+      by false e = rw e (omega (arith, ltb-false (position_or_len p xs) (length xs) e, position_or_len-within xs))
 
 -- an escaped text is its plain front as it is, and then the others escaped
 flat_map-plain : (xs : List ℕ) → flat_map escaped xs ≡ take (position_or_len has_escape xs) xs ++ flat_map escaped (drop (position_or_len has_escape xs) xs)
