@@ -20,7 +20,7 @@ use Rattle.flux_trees.proofs.DraftLaws.{depth-add, depth-begin, depth-end, add-n
 use Rattle.flux_doctext.specs.declared.sign.Sign.{Sign}
 use Rattle.flux_doctext.specs.declared.sign.Sign.TheVariants.{Space, Letter, Digit, Quote, Comma, LeftBracket, RightBracket, LeftParen, RightParen, Other}
 use Rattle.flux_doctext.specs.Spells.{is_space, IsSpace, Part, whole, inside, trees, tree, Spelled, none, some, nothing, something, last, more, element, atom}
-use Rattle.flux_doctext.specs.Reading.{sign, Shape, content, next, name, label, opened, closed, string, behind, Event, learn, enter, push, leave, Step, told, close_step, content_step, tree_step, behind_step, label_step, closed_step, opened_step, named_step, name_step, string_step, truth_of, step, end_named, end_step, number_of, PlainDraft, draft_after, depth_after, and_fits, end_fits, fits, and_read, end_read, read}
+use Rattle.flux_doctext.specs.Reading.{sign_of, Shape, content, next, name, label, opened, closed, string, behind, Event, learn, enter, push, leave, Step, told, close_step, content_step, tree_step, behind_step, label_step, closed_step, opened_step, named_step, name_step, string_step, truth_of, step, end_named, end_step, number_of, PlainDraft, draft_after, depth_after, and_fits, end_fits, fits, and_read, end_read, read}
 use Rattle.flux_atom.proofs.TextLaws.{read_items}
 use Rattle.flux_doctext.proofs.TextLaws.{EndsTrees}
 use Rattle.flux_doctext.proofs.Literals.{IsName-continues}
@@ -63,9 +63,9 @@ label_no_truth t l = rw (bytes_apart t (codes "true") l.1, bytes_apart t (codes 
 
 -- where a tree is awaited
 pub record Awaits (s : Shape) : Type 0 where
-  pub space : (n b : ℕ) → sign b ≡ Space → step s n b ≡ Some (s, [])
-  pub letter : (n b : ℕ) → sign b ≡ Letter → step s n b ≡ Some (name (b ∷ []), [])
-  pub quoted : (n b : ℕ) → sign b ≡ Quote → step s n b ≡ Some (string no_text, [])
+  pub space : (n b : ℕ) → sign_of b ≡ Space → step s n b ≡ Some (s, [])
+  pub letter : (n b : ℕ) → sign_of b ≡ Letter → step s n b ≡ Some (name (b ∷ []), [])
+  pub quoted : (n b : ℕ) → sign_of b ≡ Quote → step s n b ≡ Some (string no_text, [])
 
 pub awaits_content : Awaits content
 awaits_content = record {
@@ -98,7 +98,7 @@ module _ (names : List (List ℕ)) where
   stepped s d b bs o e = ap (λ o. and_read names o d (λ t e. read names t e bs)) e
 
   -- white space where it leads nowhere
-  read_space : (s : Shape) → ((n b : ℕ) → sign b ≡ Space → step s n b ≡ Some (s, [])) → (u rest : List ℕ) (d : PlainDraft) → IsSpace u → read names s d (u ++ rest) ≡ read names s d rest
+  read_space : (s : Shape) → ((n b : ℕ) → sign_of b ≡ Space → step s n b ≡ Some (s, [])) → (u rest : List ℕ) (d : PlainDraft) → IsSpace u → read names s d (u ++ rest) ≡ read names s d rest
   read_space s stays [] rest d space = refl
   read_space s stays (b ∷ u) rest d space =
       stepped s d b (u ++ rest) (Some (s, [])) (stays (depth d) b (space_sign b (All-head (λ x. is_space x ≡ true) b u space)))
@@ -112,7 +112,7 @@ module _ (names : List (List ℕ)) where
       ∙ read_more (front ++ b ∷ []) text rest d (All-tail (λ x. continues_name x ≡ true) b text all)
       ∙ ap (λ t. read names (name t) d rest) (append_assoc front (b ∷ []) text)
     where
-      by : (sign b ≡ Letter) ⊎ (sign b ≡ Digit) → read names (name front) d (b ∷ (text ++ rest)) ≡ read names (name (front ++ b ∷ [])) d (text ++ rest)
+      by : (sign_of b ≡ Letter) ⊎ (sign_of b ≡ Digit) → read names (name front) d (b ∷ (text ++ rest)) ≡ read names (name (front ++ b ∷ [])) d (text ++ rest)
       by (inl e) = stepped (name front) d b (text ++ rest) (Some (name (front ++ b ∷ []), [])) (ap (name_step front (depth d) b) e)
       by (inr e) = stepped (name front) d b (text ++ rest) (Some (name (front ++ b ∷ []), [])) (ap (name_step front (depth d) b) e)
 
@@ -143,7 +143,7 @@ module _ (names : List (List ℕ)) where
   pub read_truth : (text : List ℕ) (x : Atom) (d : PlainDraft) (rest : List ℕ) → truth_of text ≡ Some x → EndsName rest → read names (name text) d rest ≡ read names behind (add d (leaf tt x nil)) rest
   read_truth text x d [] is ends = ap (λ o. end_read names (end_named o) d) is
   read_truth text x d (b ∷ bs) is ends =
-      ended_by text x d b bs (sign b) is (λ e. not_named b ends (subst IsNamed (sym e) tt)) (λ e. not_named b ends (subst IsNamed (sym e) tt))
+      ended_by text x d b bs (sign_of b) is (λ e. not_named b ends (subst IsNamed (sym e) tt)) (λ e. not_named b ends (subst IsNamed (sym e) tt))
 
   -- a label, white space and the bracket
   read_label : (text t rest : List ℕ) (d : PlainDraft) → IsLabel text → IsSpace t → read names (name text) d (t ++ 91 ∷ rest) ≡ read names content (begin d tt (number_of names text)) rest

@@ -7,7 +7,7 @@ use Rattle.flux_atom.specs.Literal.{quote}
 use Rattle.flux_doctext.specs.declared.sign.Sign.{Sign}
 use Rattle.flux_doctext.specs.declared.sign.Sign.TheVariants.{Space, Comma, LeftBracket, RightBracket, LeftParen, RightParen, Quote, Letter, Digit, Other}
 use Rattle.flux_doctext.specs.Spells.{is_space, IsSpace}
-use Rattle.flux_doctext.specs.Reading.{sign}
+use Rattle.flux_doctext.specs.Reading.{sign_of}
 use Rattle.std.proofs.lemmas.List.Elements.{All-head}
 
 abbrev pub IsSignOf : ℕ → Sign → Type 0
@@ -42,11 +42,11 @@ signs x false false false false false false false true i p0 p1 p2 p3 p4 p5 p6 p7
 signs x false false false false false false false false true p0 p1 p2 p3 p4 p5 p6 p7 p8 = p8
 signs x false false false false false false false false false p0 p1 p2 p3 p4 p5 p6 p7 p8 = p8
 
-pub sign_is : (x : ℕ) → IsSignOf x (sign x)
+pub sign_is : (x : ℕ) → IsSignOf x (sign_of x)
 unfolding sign_by
 sign_is x = signs x (is_space x) (x == 44) (x == 91) (x == 93) (x == 40) (x == 41) (x == quote) (begins_name x) (continues_name x) refl refl refl refl refl refl refl refl refl
 
-pub space_sign : (b : ℕ) → is_space b ≡ true → sign b ≡ Space
+pub space_sign : (b : ℕ) → is_space b ≡ true → sign_of b ≡ Space
 space_sign b e = rw e refl
 
 -- a space continues no name
@@ -56,16 +56,16 @@ space_ends b e = grind (arith, nat_tests)
 begin_tests : (b : ℕ) → begins_name b ≡ true → (is_space b ≡ false) × ((b == 44) ≡ false) × ((b == 91) ≡ false) × ((b == 93) ≡ false) × ((b == 40) ≡ false) × ((b == 41) ≡ false) × ((b == 34) ≡ false)
 begin_tests b e = (grind (arith, nat_tests), grind (arith, nat_tests), grind (arith, nat_tests), grind (arith, nat_tests), grind (arith, nat_tests), grind (arith, nat_tests), grind (arith, nat_tests))
 
-pub letter_sign : (b : ℕ) → begins_name b ≡ true → sign b ≡ Letter
+pub letter_sign : (b : ℕ) → begins_name b ≡ true → sign_of b ≡ Letter
 letter_sign b e = let t = begin_tests b e in rw (t.0, t.1, t.2, t.3, t.4, t.5, t.6, e) refl
 
 continue_tests : (b : ℕ) → continues_name b ≡ true → (is_space b ≡ false) × ((b == 44) ≡ false) × ((b == 91) ≡ false) × ((b == 93) ≡ false) × ((b == 40) ≡ false) × ((b == 41) ≡ false) × ((b == 34) ≡ false)
 continue_tests b e = (grind (arith, nat_tests), grind (arith, nat_tests), grind (arith, nat_tests), grind (arith, nat_tests), grind (arith, nat_tests), grind (arith, nat_tests), grind (arith, nat_tests))
 
-pub named_sign : (b : ℕ) → continues_name b ≡ true → (sign b ≡ Letter) ⊎ (sign b ≡ Digit)
+pub named_sign : (b : ℕ) → continues_name b ≡ true → (sign_of b ≡ Letter) ⊎ (sign_of b ≡ Digit)
 named_sign b e = by (begins_name b) refl
   where
-    by : (t : Bool) → begins_name b ≡ t → (sign b ≡ Letter) ⊎ (sign b ≡ Digit)
+    by : (t : Bool) → begins_name b ≡ t → (sign_of b ≡ Letter) ⊎ (sign_of b ≡ Digit)
     by true h = inl (letter_sign b h)
     by false h =
         let t = continue_tests b e in
@@ -80,8 +80,8 @@ IsNamed _ = ⊥
 pub begins-continues : (b : ℕ) → begins_name b ≡ true → continues_name b ≡ true
 begins-continues b e = grind (arith, nat_tests)
 
-pub named_continues : (b : ℕ) → IsNamed (sign b) → continues_name b ≡ true
-named_continues b n = by (sign b) n (sign_is b)
+pub named_continues : (b : ℕ) → IsNamed (sign_of b) → continues_name b ≡ true
+named_continues b n = by (sign_of b) n (sign_is b)
   where
     by : (s : Sign) → IsNamed s → IsSignOf b s → continues_name b ≡ true
     by Letter n is = begins-continues b is
@@ -95,7 +95,7 @@ named_continues b n = by (sign b) n (sign_is b)
     by Quote n is = absurd n
     by Other n is = absurd n
 
-pub not_named : (b : ℕ) → continues_name b ≡ false → IsNamed (sign b) → ⊥
+pub not_named : (b : ℕ) → continues_name b ≡ false → IsNamed (sign_of b) → ⊥
 not_named b e n = false≢true (sym e ∙ named_continues b n)
 
 pub spaces_end : (u more : List ℕ) → IsSpace u → EndsName more → EndsName (u ++ more)

@@ -20,7 +20,7 @@ use Rattle.flux_trees.proofs.DraftLaws.{depth-add}
 use Rattle.flux_doctext.specs.declared.sign.Sign.{Sign}
 use Rattle.flux_doctext.specs.declared.sign.Sign.TheVariants.{Space, Letter, Digit, Quote, Comma, LeftBracket, RightBracket, LeftParen, RightParen, Other}
 use Rattle.flux_doctext.specs.Spells.{is_space, IsSpace, whole, inside, trees, tree, Spelled, none, some, nothing, something, last, element, atom}
-use Rattle.flux_doctext.specs.Reading.{sign, Shape, content, next, name, label, opened, closed, string, behind, Event, learn, enter, push, leave, Step, told, close_step, content_step, tree_step, behind_step, label_step, closed_step, opened_step, named_step, name_step, string_step, truth_of, step, number_of, PlainDraft, draft_after, names_after}
+use Rattle.flux_doctext.specs.Reading.{sign_of, Shape, content, next, name, label, opened, closed, string, behind, Event, learn, enter, push, leave, Step, told, close_step, content_step, tree_step, behind_step, label_step, closed_step, opened_step, named_step, name_step, string_step, truth_of, step, number_of, PlainDraft, draft_after, names_after}
 use Rattle.flux_doctext.proofs.ReadLaws.{number_found}
 use Rattle.flux_doctext.proofs.Signs.{IsSignOf, sign_is, begins-continues}
 use Rattle.flux_doctext.proofs.SpelledLaws.{no_space, one_space, trees_space, whole_space}
@@ -261,11 +261,11 @@ module _ (names : List (List ℕ)) (d : PlainDraft) (bytes : List ℕ) (b : ℕ)
 
   -- each step keeps what is read
   pub step_kept : (s : Shape) → IsRead names s bytes d → IsKept names d (bytes ++ b ∷ []) (step s (depth d) b)
-  step_kept content w = content_kept names d bytes b w (sign b) (sign_is b)
-  step_kept next w = tree_kept names d bytes b next (λ x h c. c) (begun_space names b) w (sign b) (sign_is b)
-  step_kept (name text) w = name_kept text w (sign b) (sign_is b)
-  step_kept (label text) w = label_kept names d bytes b text w (sign b) (sign_is b)
-  step_kept opened w = opened_kept names d bytes b w (sign b) (sign_is b)
-  step_kept closed w = closed_kept names d bytes b w (sign b) (sign_is b)
+  step_kept content w = content_kept names d bytes b w (sign_of b) (sign_is b)
+  step_kept next w = tree_kept names d bytes b next (λ x h c. c) (begun_space names b) w (sign_of b) (sign_is b)
+  step_kept (name text) w = name_kept text w (sign_of b) (sign_is b)
+  step_kept (label text) w = label_kept names d bytes b text w (sign_of b) (sign_is b)
+  step_kept opened w = opened_kept names d bytes b w (sign_of b) (sign_is b)
+  step_kept closed w = closed_kept names d bytes b w (sign_of b) (sign_is b)
   step_kept (string r) w = string_kept names d bytes b r w (text_step r.0 b) refl
-  step_kept behind w = behind_kept names d bytes b w (sign b) (sign_is b)
+  step_kept behind w = behind_kept names d bytes b w (sign_of b) (sign_is b)

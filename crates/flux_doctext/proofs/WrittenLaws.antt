@@ -20,7 +20,7 @@ use Rattle.flux_trees.proofs.DraftLaws.{depth-add}
 use Rattle.flux_doctext.specs.declared.sign.Sign.{Sign}
 use Rattle.flux_doctext.specs.declared.sign.Sign.TheVariants.{Space, Letter, Digit, Quote, Comma, LeftBracket, RightBracket, LeftParen, RightParen, Other}
 use Rattle.flux_doctext.specs.Spells.{is_space, IsSpace, whole, inside, trees, tree, Spelled, none, some, nothing, something, last, element, atom}
-use Rattle.flux_doctext.specs.Reading.{sign, Shape, content, next, name, label, opened, closed, string, behind, Event, learn, enter, push, leave, Step, told, close_step, content_step, tree_step, behind_step, label_step, closed_step, opened_step, named_step, name_step, string_step, truth_of, step, number_of, PlainDraft, draft_after, names_after}
+use Rattle.flux_doctext.specs.Reading.{sign_of, Shape, content, next, name, label, opened, closed, string, behind, Event, learn, enter, push, leave, Step, told, close_step, content_step, tree_step, behind_step, label_step, closed_step, opened_step, named_step, name_step, string_step, truth_of, step, number_of, PlainDraft, draft_after, names_after}
 use Rattle.flux_doctext.proofs.ReadLaws.{number_found}
 use Rattle.flux_doctext.proofs.Signs.{IsSignOf, sign_is, begins-continues}
 use Rattle.flux_doctext.proofs.SpelledLaws.{no_space, one_space, held_more, spelled-more, trees_space, whole_space, trees_push}

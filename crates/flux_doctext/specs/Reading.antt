@@ -13,8 +13,8 @@ use Rattle.flux_doctext.specs.declared.sign.Sign.TheVariants.{Space, Comma, Left
 use Rattle.flux_doctext.specs.Spells.{is_space}
 
 -- what a byte is, outside of strings
-abbrev pub sign : ℕ → Sign
-sign b =
+abbrev pub sign_of : ℕ → Sign
+sign_of b =
     if is_space b then Space else
     if b == 44 then Comma else
     if b == 91 then LeftBracket else
@@ -119,14 +119,14 @@ string_step r misfits = None
 
 -- a byte where so many elements are open
 abbrev pub step : Shape → ℕ → ℕ → Step
-step content n b = content_step n b (sign b)
-step next n b = tree_step next b (sign b)
-step (name text) n b = name_step text n b (sign b)
-step (label text) n b = label_step text (sign b)
-step opened n b = opened_step (sign b)
-step closed n b = closed_step n (sign b)
+step content n b = content_step n b (sign_of b)
+step next n b = tree_step next b (sign_of b)
+step (name text) n b = name_step text n b (sign_of b)
+step (label text) n b = label_step text (sign_of b)
+step opened n b = opened_step (sign_of b)
+step closed n b = closed_step n (sign_of b)
 step (string r) n b = string_step r (text_step r.0 b)
-step behind n b = behind_step n (sign b)
+step behind n b = behind_step n (sign_of b)
 
 -- a text may end behind a name that is an atom
 abbrev pub end_named : Option Atom → Option (List Event)

@@ -2,10 +2,13 @@
 #![tactic(auto)]
 
 mod laws;
+mod read;
+mod reader;
 mod sign;
 mod write;
 
 pub use laws::text_tells_forest;
+pub use read::{DocFault, read_document};
 pub use write::write_forest;
 
 #[cfg(test)]

@@ -1,6 +1,6 @@
 // What a byte can be to a reader of documents, outside of strings.
 ghost use Rattle.std.specs.Prelude.{◌≡◌};
-ghost use Rattle.flux_doctext.specs.Reading.{sign};
+ghost use Rattle.flux_doctext.specs.Reading.{sign_of};
 
 use flux_atom::can_continue;
 
@@ -23,7 +23,7 @@ pub(crate) enum Sign {
 
 impl Sign {
     pub(crate) fn of(byte: u8) -> Sign
-        ensures { result ≡ sign byte }
+        ensures { result ≡ sign_of byte }
     {
         match byte {
             b' ' | b'\t' | b'\r' | b'\n' => Sign::Space,

@@ -1,0 +1,149 @@
+-- What a reader has read, from the beginning of the text to its end.
+use Rattle.std.proofs.Common.{◌≡◌, ℕ, zero, suc, ◌+◌, ◌<◌, ◌≤◌, Bool, true, false, List, [], ◌∷◌, ◌++◌, length, take, drop, get_or, Option, Some, None, refl, sym, ap, subst, ◌∙◌, append_assoc, arith}
+use Rattle.std.proofs.lemmas.Bool.{false≢true}
+use Rattle.std.proofs.lemmas.List.{append-nil, take-append-drop, take-take, take_more, take_all}
+use Rattle.flux_atom.specs.declared.atom.Atom.{Atom}
+use Rattle.flux_atom.specs.Names.{IsTable}
+use Rattle.flux_trees.specs.Hedge.{Plain, nil, leaf}
+use Rattle.flux_trees.specs.Draft.{done, begun, depth, add}
+use Rattle.flux_trees.proofs.DraftLaws.{depth-add}
+use Rattle.flux_doctext.specs.declared.reader.State.{State}
+use Rattle.flux_doctext.specs.Spells.{Spelled, whole, some, Spells, IsViable}
+use Rattle.flux_doctext.specs.Labels.{labels, learnt}
+use Rattle.flux_doctext.specs.Documents.{IsDocument, IsNoDocument}
+use Rattle.flux_doctext.specs.Reading.{Shape, content, next, name, label, opened, closed, string, behind, Event, push, Step, truth_of, step, end_named, end_step, PlainDraft, draft_after, names_after, depth_after, and_fits, end_fits, fits}
+use Rattle.flux_doctext.specs.Steps.{shape_of, IsTaken, IsEnded}
+use Rattle.flux_doctext.proofs.ReadLaws.{spelled_fits, depth-draft_after}
+use Rattle.flux_doctext.proofs.SpelledLaws.{no_space}
+use Rattle.flux_doctext.proofs.StepLaws.{IsRead, IsKept, step_kept, named_behind}
+use Rattle.flux_doctext.proofs.ViableLaws.{read_viable}
+use Rattle.flux_doctext.proofs.LabelLaws.{HasLearnt, learnt_kept, learnt_end, draft_labels, spelled_labels, spelled_atoms}
+
+-- the bytes are read, over a table that began as old: what fits behind them fits where the reader is
+pub record IsReader (old names : List (List ℕ)) (s : Shape) (bytes : List ℕ) (d : PlainDraft) : Type 0 where
+  pub table : IsTable names
+  pub is_read : IsRead names s bytes d
+  pub fitted : (rest : List ℕ) → fits content 0 (bytes ++ rest) ≡ fits s (depth d) rest
+  pub learns : HasLearnt old names s d
+
+pub reader_new : (names : List (List ℕ)) → IsTable names → IsReader names names content [] (done nil)
+reader_new names table = record {
+  table = table;
+  is_read = (no_space, refl);
+  fitted = λ rest. refl;
+  learns = refl;
+}
+
+reader_step : (old names new : List (List ℕ)) (s : Shape) (b : ℕ) (bytes : List ℕ) (d e : PlainDraft) (state : State) → IsReader old names s bytes d → IsTable new → IsTaken names (step s (depth d) b) d new e state → IsReader old new (shape_of new state) (bytes ++ b ∷ []) e
+reader_step old names new s b bytes d e state i table t = record {
+  table = table;
+  is_read = is_read;
+  fitted = fitted;
+  learns = subst (HasLearnt old new (shape_of new state)) (sym t.draws) (learnt_kept old names new s (shape_of new state) bytes d t.events (depth d) b i.is_read i.learns t.fits t.learns);
+}
+  where
+    kept : IsRead (names_after t.events names) (shape_of new state) (bytes ++ b ∷ []) (draft_after (names_after t.events names) t.events d)
+    kept = subst (IsKept names d (bytes ++ b ∷ [])) t.fits (step_kept names d bytes b s i.is_read)
+
+    is_read : IsRead new (shape_of new state) (bytes ++ b ∷ []) e
+    is_read =
+        subst (IsRead new (shape_of new state) (bytes ++ b ∷ [])) (sym t.draws) (subst (λ ns. IsRead ns (shape_of new state) (bytes ++ b ∷ []) (draft_after ns t.events d)) (sym t.learns) kept)
+
+    fitted : (rest : List ℕ) → fits content 0 ((bytes ++ b ∷ []) ++ rest) ≡ fits (shape_of new state) (depth e) rest
+    fitted rest =
+        ap (fits content 0) (append_assoc bytes (b ∷ []) rest)
+        ∙ i.fitted (b ∷ rest)
+        ∙ ap (λ o. and_fits o (depth d) (λ u m. fits u m rest)) t.fits
+        ∙ ap (λ n. fits (shape_of new state) n rest) (sym (ap depth t.draws ∙ depth-draft_after new t.events d))
+
+-- the bytes in front of more, and those behind them
+front_of : (bytes : List ℕ) (i m : ℕ) → i < m → m ≤ length bytes → take m bytes ≡ take i bytes ++ (get_or bytes i 0 ∷ drop (i + 1) (take m bytes))
+front_of bytes i m below within =
+    sym (take-append-drop (i + 1) (take m bytes))
+    ∙ ap (λ l. l ++ drop (i + 1) (take m bytes)) (take-take (i + 1) m bytes (omega arith) ∙ take_more bytes i 0 (omega arith))
+    ∙ append_assoc (take i bytes) (get_or bytes i 0 ∷ []) (drop (i + 1) (take m bytes))
+
+-- a byte that fits nowhere
+pub misfit : (old names : List (List ℕ)) (s : Shape) (bytes : List ℕ) (i : ℕ) (d : PlainDraft) → IsReader old names s (take i bytes) d → i < length bytes → step s (depth d) (get_or bytes i 0) ≡ None → IsNoDocument bytes i
+misfit old names s bytes i d r below none = record {
+  spells_none = λ table v x. never table v (drop (i + 1) (take (length bytes) bytes)) (subst (λ l. Spells table l v) (sym (take_all (length bytes) bytes (omega arith)) ∙ front_of bytes i (length bytes) below (omega arith)) x);
+  longest = record {
+    within = omega arith;
+    holds = read_viable names s (take i bytes) d r.table r.is_read;
+    longest = λ m more within viable. never viable.names viable.forest (drop (i + 1) (take m bytes) ++ viable.more) (subst (λ l. Spells viable.names l viable.forest) (ap (λ l. l ++ viable.more) (front_of bytes i m more within) ∙ append_assoc (take i bytes) (get_or bytes i 0 ∷ drop (i + 1) (take m bytes)) viable.more) viable.spells);
+  };
+}
+  where
+    never : (table : List (List ℕ)) (v : Plain) (rest : List ℕ) → Spells table (take i bytes ++ (get_or bytes i 0 ∷ rest)) v → ⊥
+    never table v rest x =
+        false≢true (sym (r.fitted (get_or bytes i 0 ∷ rest) ∙ ap (λ o. and_fits o (depth d) (λ u m. fits u m rest)) none) ∙ spelled_fits table (take i bytes ++ (get_or bytes i 0 ∷ rest)) v x.table x.forest)
+
+-- a text that ends too early
+unended : (old names : List (List ℕ)) (s : Shape) (bytes : List ℕ) (d : PlainDraft) → IsReader old names s bytes d → end_fits (end_step s) (depth d) ≡ false → IsNoDocument bytes (length bytes)
+unended old names s bytes d r open_still = record {
+  spells_none = λ table v x. false≢true (sym (ap (fits content 0) (sym (append-nil bytes)) ∙ r.fitted [] ∙ open_still) ∙ spelled_fits table bytes v x.table x.forest);
+  longest = record {
+    within = omega arith;
+    holds = subst IsViable (sym (take_all (length bytes) bytes (omega arith))) (read_viable names s bytes d r.table r.is_read);
+    longest = λ m more within viable. omega arith;
+  };
+}
+
+-- what is read at the end of the text
+pub record IsWhole (names : List (List ℕ)) (bytes : List ℕ) (d : PlainDraft) : Type 0 where
+  pub forest : Plain
+  pub is_done : d ≡ done forest
+  pub spelled : Spelled names whole bytes forest
+
+whole_behind : (names : List (List ℕ)) (bytes : List ℕ) (d : PlainDraft) → IsRead names behind bytes d → depth d ≡ 0 → IsWhole names bytes d
+whole_behind names bytes (done h) w closes = record { forest = h; is_done = refl; spelled = some w }
+whole_behind names bytes (begun b n a d) w closes = absurd (omega (arith, closes))
+
+whole_closed : (names : List (List ℕ)) (bytes : List ℕ) (d : PlainDraft) → IsRead names closed bytes d → depth d ≡ 0 → IsWhole names bytes d
+whole_closed names bytes (done h) w closes = record { forest = h; is_done = refl; spelled = subst (Spelled names whole bytes) (sym w.1) w.0 }
+whole_closed names bytes (begun b n a d) w closes = absurd (omega (arith, closes))
+
+ended : (names : List (List ℕ)) (s : Shape) (bytes : List ℕ) (d : PlainDraft) (es : List Event) → IsRead names s bytes d → end_step s ≡ Some es → depth d ≡ 0 → IsWhole names bytes (draft_after names es d)
+ended names content bytes d es w e closes = absurd cc
+ended names next bytes d es w e closes = absurd cc
+ended names (label text) bytes d es w e closes = absurd cc
+ended names opened bytes d es w e closes = absurd cc
+ended names (string r) bytes d es w e closes = absurd cc
+ended names closed bytes d es w e closes =
+    let nothing_more : [] ≡ es = cc in
+    subst (λ l. IsWhole names bytes (draft_after names l d)) nothing_more (whole_closed names bytes d w closes)
+ended names behind bytes d es w e closes =
+    let nothing_more : [] ≡ es = cc in
+    subst (λ l. IsWhole names bytes (draft_after names l d)) nothing_more (whole_behind names bytes d w closes)
+ended names (name text) bytes d es w e closes = by (truth_of text) refl e
+  where
+    by : (o : Option Atom) → truth_of text ≡ o → end_named o ≡ Some es → IsWhole names bytes (draft_after names es d)
+    by None is e = absurd cc
+    by (Some x) is e =
+        let pushed : push x ∷ [] ≡ es = cc in
+        subst (λ l. IsWhole names bytes (draft_after names l d)) pushed (whole_behind names bytes (add d (leaf tt x nil)) (named_behind names text x bytes d is w) (depth-add d (leaf tt x nil) ∙ closes))
+
+-- a text that is read to its end
+document_read : (old names : List (List ℕ)) (s : Shape) (bytes : List ℕ) (d new : PlainDraft) (es : List Event) → IsReader old names s bytes d → end_step s ≡ Some es → depth d ≡ 0 → new ≡ draft_after names es d → (v : Plain) × (new ≡ done v) × IsDocument old names bytes v
+document_read old names s bytes d new es r e closes draws = by (ended names s bytes d es r.is_read e closes)
+  where
+    by : IsWhole names bytes (draft_after names es d) → (v : Plain) × (new ≡ done v) × IsDocument old names bytes v
+    by i = (i.forest, draws ∙ i.is_done, record {
+      spells = record { table = r.table; forest = i.spelled };
+      over = record { table = r.table; labels = spelled_labels i.spelled; atoms = spelled_atoms i.spelled };
+      learns = learnt_end old names s d es r.learns e ∙ ap (λ f. learnt old (draft_labels names f)) i.is_done;
+    })
+
+-- the same at a place of the whole text
+
+pub reader_next : (old names new : List (List ℕ)) (s : Shape) (bytes : List ℕ) (i : ℕ) (d e : PlainDraft) (state : State) → IsReader old names s (take i bytes) d → i < length bytes → IsTable new → IsTaken names (step s (depth d) (get_or bytes i 0)) d new e state → IsReader old new (shape_of new state) (take (i + 1) bytes) e
+reader_next old names new s bytes i d e state r below table t =
+    subst (λ l. IsReader old new (shape_of new state) l e) (sym (take_more bytes i 0 below)) (reader_step old names new s (get_or bytes i 0) (take i bytes) d e state r table t)
+
+pub document_ends : (old names : List (List ℕ)) (s : Shape) (bytes : List ℕ) (i : ℕ) (d new : PlainDraft) → IsReader old names s (take i bytes) d → length bytes ≤ i → IsEnded (end_step s) d new → (v : Plain) × (new ≡ done v) × IsDocument old names bytes v
+document_ends old names s bytes i d new r past e =
+    document_read old names s bytes d new e.events (subst (λ l. IsReader old names s l d) (take_all i bytes past) r) e.fits e.whole (e.draws names)
+
+pub document_unended : (old names : List (List ℕ)) (s : Shape) (bytes : List ℕ) (i : ℕ) (d : PlainDraft) → IsReader old names s (take i bytes) d → length bytes ≤ i → end_fits (end_step s) (depth d) ≡ false → IsNoDocument bytes (length bytes)
+document_unended old names s bytes i d r past e =
+    unended old names s bytes d (subst (λ l. IsReader old names s l d) (take_all i bytes past) r) e

@@ -1,0 +1,264 @@
+// A reader of documents, byte by byte.
+ghost use Rattle.std.specs.Prelude.{◌≡◌, ◌+◌, ◌-◌, ◌^◌, ◌<◌, ℕ, List, [], ◌∷◌, ◌++◌, Some, length, IfOk, IfSome, IfNone, string_bytes};
+ghost use Rattle.flux_atom.specs.Names.{name_text, IsName, IsTable};
+ghost use Rattle.flux_atom.specs.TextSteps.{no_text, read_text, text_step};
+ghost use Rattle.flux_trees.specs.Draft.{Draft, depth};
+ghost use Rattle.flux_doctext.specs.Reading.{behind_step, close_step, closed_step, content_step, end_named, end_step, label_step, name_step, named_step, opened_step, sign_of, step, string_step, tree_step, truth_of};
+ghost use Rattle.flux_doctext.specs.Steps.{shape_of, Ends, Follows, HasGrown, IsSound};
+
+use crate::sign::Sign;
+use flux_atom::{Atom, Name, Names, Taken, TextReader};
+use flux_forest::Forest;
+use std::alloc::{AllocError, Global};
+
+// Where a reader is. It holds no text but that of the token that it is in.
+#[derive(Drop)]
+pub(crate) enum State {
+    // A forest is expected, or the end of the element that has just begun.
+    Content,
+    // A tree is expected, as behind a comma.
+    Tree,
+    // In a name, or at its end.
+    Name(String),
+    // Behind a label and white space: the bracket has to follow.
+    Label(Name),
+    // Behind `(`.
+    Opened,
+    // Behind `()`.
+    Closed,
+    // In a string.
+    Text(TextReader),
+    // Behind a tree.
+    Behind,
+}
+
+// Where the next byte leads; none where it fits nowhere. The forest and the table hold what is
+// read.
+pub(crate) fn step(
+    alloc: Global,
+    state: State,
+    byte: u8,
+    names: &mut Names,
+    forest: &mut Forest,
+) -> Result<Option<State>, AllocError>
+    requires sound { IsSound names.old state }
+    requires table { IsTable names.old }
+    requires room { length names.old < 2 ^ 32 - 1 }
+    ensures grown { HasGrown names.old names.new 1 }
+    ensures next { IfOk result (Follows names.old (step (shape_of names.old state) (depth forest.old) byte) forest.old names.new forest.new) }
+{
+    let sign = Sign::of(byte);
+    match state {
+        State::Content => in_content(alloc, sign, byte, forest),
+        State::Tree => at_tree(alloc, State::Tree, sign, byte),
+        State::Name(text) => in_name(text, sign, byte, names, forest),
+        State::Label(name) => behind_label(name, sign, forest),
+        State::Opened => Ok(in_parentheses(sign)),
+        State::Closed => Ok(behind_parentheses(sign, forest)),
+        State::Text(text) => in_text(text, byte, forest),
+        State::Behind => Ok(behind_tree(sign, forest)),
+    }
+}
+
+fn in_content(
+    alloc: Global,
+    sign: Sign,
+    byte: u8,
+    forest: &mut Forest,
+) -> Result<Option<State>, AllocError>
+    requires { sign ≡ sign_of byte }
+    ensures { (names : List (List ℕ)) → IfOk result (Follows names (content_step (depth forest.old) byte sign) forest.old names forest.new) }
+{
+    match sign {
+        Sign::RightBracket => Ok(end_element(forest)),
+        Sign::LeftParen => Ok(Some(State::Opened)),
+        _ => at_tree(alloc, State::Content, sign, byte),
+    }
+}
+
+// White space before a tree, or its first byte.
+fn at_tree(
+    alloc: Global,
+    state: State,
+    sign: Sign,
+    byte: u8,
+) -> Result<Option<State>, AllocError>
+    requires { sign ≡ sign_of byte }
+    ensures { (names : List (List ℕ)) (d : Draft (Unit {0})) → IsSound names state → IfOk result (Follows names (tree_step (shape_of names state) byte sign) d names d) }
+{
+    match sign {
+        Sign::Space => Ok(Some(state)),
+        Sign::Quote => Ok(Some(State::Text(TextReader::new(alloc)))),
+        Sign::Letter => {
+            let text = longer(String::new(alloc), byte)?;
+            Ok(Some(State::Name(text)))
+        }
+        _ => Ok(None),
+    }
+}
+
+// A name, and a byte that it goes on with.
+fn longer(mut text: String, byte: u8) -> Result<String, AllocError>
+    requires { byte < 128 }
+    ensures { IfOk result (λ longer. string_bytes longer ≡ string_bytes text ++ byte ∷ []) }
+{
+    text.push(char::from(byte))?;
+    Ok(text)
+}
+
+fn in_name(
+    text: String,
+    sign: Sign,
+    byte: u8,
+    names: &mut Names,
+    forest: &mut Forest,
+) -> Result<Option<State>, AllocError>
+    requires sign { sign ≡ sign_of byte }
+    requires name { IsName (string_bytes text) }
+    requires room { length names.old < 2 ^ 32 - 1 }
+    ensures grown { HasGrown names.old names.new 1 }
+    ensures next { IfOk result (Follows names.old (name_step (string_bytes text) (depth forest.old) byte sign) forest.old names.new forest.new) }
+{
+    match sign {
+        Sign::Letter | Sign::Digit => {
+            let text = longer(text, byte)?;
+            Ok(Some(State::Name(text)))
+        }
+        _ => behind_name(text, sign, names, forest),
+    }
+}
+
+// A byte that ends a name, which is an atom or a label.
+fn behind_name(
+    text: String,
+    sign: Sign,
+    names: &mut Names,
+    forest: &mut Forest,
+) -> Result<Option<State>, AllocError>
+    requires name { IsName (string_bytes text) }
+    requires room { length names.old < 2 ^ 32 - 1 }
+    ensures grown { HasGrown names.old names.new 1 }
+    ensures next { IfOk result (Follows names.old (named_step (string_bytes text) (truth_of (string_bytes text)) (depth forest.old) sign) forest.old names.new forest.new) }
+{
+    if let Some(truth) = truth_in(text.as_str()) {
+        forest.push_atom(Atom::Bool(truth))?;
+        return Ok(behind_tree(sign, forest));
+    }
+    match sign {
+        Sign::Space | Sign::LeftBracket => {
+            let name = names.intern(text.as_str())?;
+            behind_label(name, sign, forest)
+        }
+        _ => Ok(None),
+    }
+}
+
+fn behind_label(
+    name: Name,
+    sign: Sign,
+    forest: &mut Forest,
+) -> Result<Option<State>, AllocError>
+    ensures { (names : List (List ℕ)) → IsTable names → name < length names → IfOk result (Follows names (label_step (name_text names name) sign) forest.old names forest.new) }
+{
+    match sign {
+        Sign::Space => Ok(Some(State::Label(name))),
+        Sign::LeftBracket => {
+            forest.begin_element(name)?;
+            Ok(Some(State::Content))
+        }
+        _ => Ok(None),
+    }
+}
+
+fn in_parentheses(sign: Sign) -> Option<State>
+    ensures { (names : List (List ℕ)) (d : Draft (Unit {0})) → Follows names (opened_step sign) d names d result }
+{
+    match sign {
+        Sign::Space => Some(State::Opened),
+        Sign::RightParen => Some(State::Closed),
+        _ => None,
+    }
+}
+
+fn behind_parentheses(sign: Sign, forest: &mut Forest) -> Option<State>
+    ensures { (names : List (List ℕ)) → Follows names (closed_step (depth forest.old) sign) forest.old names forest.new result }
+{
+    match sign {
+        Sign::Space => Some(State::Closed),
+        Sign::RightBracket => end_element(forest),
+        _ => None,
+    }
+}
+
+fn in_text(
+    mut text: TextReader,
+    byte: u8,
+    forest: &mut Forest,
+) -> Result<Option<State>, AllocError>
+    requires { (items : List ℕ) × (read_text no_text items ≡ Some text) }
+    ensures { (names : List (List ℕ)) → IfOk result (Follows names (string_step text (text_step text.0 byte)) forest.old names forest.new) }
+{
+    match text.take(byte)? {
+        Taken::On => Ok(Some(State::Text(text))),
+        Taken::Closes => {
+            forest.push_atom(Atom::Text(text.into_word()))?;
+            Ok(Some(State::Behind))
+        }
+        Taken::Misfits => Ok(None),
+    }
+}
+
+fn behind_tree(sign: Sign, forest: &mut Forest) -> Option<State>
+    ensures { (names : List (List ℕ)) → Follows names (behind_step (depth forest.old) sign) forest.old names forest.new result }
+{
+    match sign {
+        Sign::Space => Some(State::Behind),
+        Sign::Comma => Some(State::Tree),
+        Sign::RightBracket => end_element(forest),
+        _ => None,
+    }
+}
+
+// A bracket ends the element that was begun last.
+fn end_element(forest: &mut Forest) -> Option<State>
+    ensures { (names : List (List ℕ)) → Follows names (close_step (depth forest.old)) forest.old names forest.new result }
+{
+    if forest.is_whole() {
+        return None;
+    }
+    forest.end_element();
+    Some(State::Behind)
+}
+
+// Whether the text may end here, where the last atom may end too.
+pub(crate) fn end(state: State, forest: &mut Forest) -> Result<bool, AllocError>
+    ensures { (names : List (List ℕ)) → IfOk result (Ends (end_step (shape_of names state)) forest.old forest.new) }
+{
+    match state {
+        State::Name(text) => end_name(text.as_str(), forest),
+        State::Closed | State::Behind => Ok(forest.is_whole()),
+        _ => Ok(false),
+    }
+}
+
+fn end_name(text: &str, forest: &mut Forest) -> Result<bool, AllocError>
+    ensures { IfOk result (Ends (end_named (truth_of text.now)) forest.old forest.new) }
+{
+    let Some(truth) = truth_in(text) else {
+        return Ok(false);
+    };
+    forest.push_atom(Atom::Bool(truth))?;
+    Ok(forest.is_whole())
+}
+
+// The truth value that a name is, if it is one.
+fn truth_in(text: &str) -> Option<bool>
+    ensures truth { IfSome result (λ truth. truth_of text.now ≡ Some (Atom.Bool truth)) }
+    ensures other { IfNone result (truth_of text.now ≡ None) }
+{
+    match text {
+        "true" => Some(true),
+        "false" => Some(false),
+        _ => None,
+    }
+}
