@@ -2,6 +2,6 @@ mod Characters
 pub mod LiteralLaws
 mod ReservedLaws
 mod Runs
-mod Tables
+pub mod Tables
 pub mod TextLaws
 mod TextRuns

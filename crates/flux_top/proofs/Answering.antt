@@ -5,14 +5,14 @@ use Rattle.flux_io.specs.Outside.{Held, file}
 use Rattle.flux_top.specs.Words.{form}
 use Rattle.flux_top.specs.Lines.{status_of, line_of}
 use Rattle.flux_top.specs.Script.{DeletesPath}
-use Rattle.flux_top.specs.Document.{IsDocument}
-use Rattle.flux_top.specs.Answer.{NamesScript, NamesDocument, AsksDeletion, Answer, Lacking, usage, long_script, other_script, long_document, other_document, done, no_script, no_document}
+use Rattle.flux_doctext.specs.Spells.{Spells}
+use Rattle.flux_top.specs.Answer.{NamesScript, NamesDocument, AsksDeletion, Answer, Lacking, usage, long_script, other_script, long_document, no_forest, done, no_script, no_document}
 use Rattle.flux_top.specs.Clauses.{Answers, IsStatus, IsComplete}
 use Rattle.flux_top.specs.Prepare.{IsEarlyRefusal}
 use Rattle.flux_top.specs.declared.status.Status.{Status}
 use Rattle.flux_top.specs.declared.status.Status.TheVariants.{Done, ReadFault, Memory}
 use Rattle.flux_top.specs.declared.refusal.Refusal.{Refusal}
-use Rattle.flux_top.specs.declared.refusal.Refusal.TheVariants.{WrongWords, LongScript, OtherScript, LongDocument, OtherDocument, NoRead, NoWrite, NoMemory}
+use Rattle.flux_top.specs.declared.refusal.Refusal.TheVariants.{WrongWords, LongScript, OtherScript, LongDocument, NoForest, NoRead, NoWrite, NoMemory}
 
 some_same : (X : Type 0) (x y : X) → Some x ≡ Some y → x ≡ y
 some_same X x y e = cc
@@ -64,8 +64,8 @@ module _ (held : Held) (words : List (List ℕ)) where
   lacking_answer (other_script named short wrong) (no_document asked is lacks) = wrong _ (asks_path _ asked named)
   lacking_answer (long_document asked named long) (no_script is lacks) = script_there _ is lacks asked.named
   lacking_answer (long_document asked named long) (no_document _ is lacks) = document_there _ is lacks named
-  lacking_answer (other_document asked named short wrong) (no_script is lacks) = script_there _ is lacks asked.named
-  lacking_answer (other_document asked named short wrong) (no_document _ is lacks) = document_there _ is lacks named
+  lacking_answer (no_forest asked named short wrong) (no_script is lacks) = script_there _ is lacks asked.named
+  lacking_answer (no_forest asked named short wrong) (no_document _ is lacks) = document_there _ is lacks named
   lacking_answer (done path asked named short spelled derived) (no_script is lacks) = script_there _ is lacks asked.named
   lacking_answer (done path asked named short spelled derived) (no_document _ is lacks) = document_there _ is lacks named
 
@@ -76,8 +76,8 @@ module _ (held : Held) (words : List (List ℕ)) where
   done_answer (done path asked named short spelled derived) (other_script there within wrong) = absurd (wrong _ (asks_path _ asked there))
   done_answer (done {document} path asked named short spelled derived) (long_document {document = other} _ there long) =
       absurd (omega (arith, long, short, ap length (document_one document other named there)))
-  done_answer (done {document} {names} path {v} asked named short spelled derived) (other_document {document = other} _ there within wrong) =
-      absurd (wrong names v (subst (λ d. IsDocument names d v) (document_one document other named there) spelled))
+  done_answer (done {document} {names} path {v} asked named short spelled derived) (no_forest {document = other} _ there within wrong) =
+      absurd (wrong.none.spells_none names v (subst (λ d. Spells names d v) (document_one document other named there) spelled))
   done_answer (done path asked named short spelled derived) (done _ _ _ _ _ _) = refl
 
   -- a refusal before the write has the status of the answer
@@ -86,7 +86,7 @@ module _ (held : Held) (words : List (List ℕ)) where
   early_status read_rose write_rose LongScript answer = ([], line_of LongScript, answer)
   early_status read_rose write_rose OtherScript answer = ([], line_of OtherScript, answer)
   early_status read_rose write_rose LongDocument answer = ([], line_of LongDocument, answer)
-  early_status read_rose write_rose OtherDocument answer = ([], line_of OtherDocument, answer)
+  early_status read_rose write_rose (NoForest p) answer = ([], line_of (NoForest p), answer)
   early_status read_rose write_rose NoRead cause = cause
   early_status read_rose write_rose NoWrite none = absurd none
   early_status read_rose write_rose NoMemory any = tt
@@ -97,7 +97,7 @@ module _ (held : Held) (words : List (List ℕ)) where
   lacking_status read_rose LongScript answer lacks = absurd (lacking_answer answer lacks)
   lacking_status read_rose OtherScript answer lacks = absurd (lacking_answer answer lacks)
   lacking_status read_rose LongDocument answer lacks = absurd (lacking_answer answer lacks)
-  lacking_status read_rose OtherDocument answer lacks = absurd (lacking_answer answer lacks)
+  lacking_status read_rose (NoForest p) answer lacks = absurd (lacking_answer answer lacks)
   lacking_status read_rose NoRead cause lacks = inl refl
   lacking_status read_rose NoWrite none lacks = absurd none
   lacking_status read_rose NoMemory any lacks = inr refl
@@ -108,7 +108,7 @@ module _ (held : Held) (words : List (List ℕ)) where
   done_status read_rose LongScript refused (output, line, answer) calm = inl (done_answer answer refused)
   done_status read_rose OtherScript refused (output, line, answer) calm = inl (done_answer answer refused)
   done_status read_rose LongDocument refused (output, line, answer) calm = inl (done_answer answer refused)
-  done_status read_rose OtherDocument refused (output, line, answer) calm = inl (done_answer answer refused)
+  done_status read_rose (NoForest p) refused (output, line, answer) calm = inl (done_answer answer refused)
   done_status read_rose NoRead (inl (rises, form_is)) (output, line, answer) calm = absurd (calm rises)
   done_status read_rose NoRead (inr lacks) (output, line, answer) calm = absurd (lacking_answer answer lacks)
   done_status read_rose NoWrite none (output, line, answer) calm = absurd none

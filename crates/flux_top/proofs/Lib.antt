@@ -5,8 +5,5 @@ pub mod Preparing
 pub mod Answering
 pub mod Pruned
 pub mod Unique
-pub mod StringLaws
-pub mod WrittenLaws
-pub mod EndingLaws
-pub mod StepLaws
-pub mod DocumentLaws
+pub mod Places
+pub mod Spelled

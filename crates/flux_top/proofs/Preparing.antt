@@ -12,13 +12,14 @@ use Rattle.flux_calculus.specs.Core.{standard}
 use Rattle.flux_calculus.specs.Derives.{Derives}
 use Rattle.flux_calculus.specs.Paths.{delete_on}
 use Rattle.flux_top.specs.Script.{DeletesPath}
-use Rattle.flux_top.specs.Document.{IsDocument}
+use Rattle.flux_doctext.specs.Spells.{Spells}
+use Rattle.flux_top.specs.declared.position.Position.{Position}
 use Rattle.flux_top.specs.Words.{form}
-use Rattle.flux_top.specs.Answer.{script_limit, document_limit, NamesScript, NamesDocument, AsksDeletion, long_script, other_script, long_document, other_document, done, no_script, no_document}
+use Rattle.flux_top.specs.Answer.{script_limit, document_limit, NamesScript, NamesDocument, AsksDeletion, long_script, other_script, IsNoForest, long_document, no_forest, done, no_script, no_document}
 use Rattle.flux_top.specs.Clauses.{IsOutput}
 use Rattle.flux_top.specs.Prepare.{IsFileRefusal, IsEarlyRefusal}
 use Rattle.flux_top.specs.declared.refusal.Refusal.{Refusal}
-use Rattle.flux_top.specs.declared.refusal.Refusal.TheVariants.{LongScript, OtherScript, LongDocument, OtherDocument, NoMemory}
+use Rattle.flux_top.specs.declared.refusal.Refusal.TheVariants.{LongScript, OtherScript, LongDocument, NoForest, NoMemory}
 use Rattle.flux_top.proofs.Interned.{Within, path-more}
 
 pub rose_later : (a b c : ℕ) → a ≤ b → Rose b c → Rose a c
@@ -69,18 +70,18 @@ module _ (words : List (List ℕ)) (s d : List ℕ) (is : form words ≡ Some (s
       subst (IsEarlyRefusal (Some held) words rose) (sym long) (long_document asked (document_there held bytes there) more)
   early_document holds rose r steps asked (inr (inr no_memory)) = subst (IsEarlyRefusal holds words rose) (sym no_memory) tt
 
-  -- the document is no canonical text
+  -- the document spells no forest
   pub early_forest : (holds : Option Held) (rose : Type 0) (r : Refusal) (steps : List (List ℕ)) (document : List ℕ) → IfSome holds (λ held. AsksDeletion held words steps)
       → IfSome holds (λ held. file held d ≡ Some document) → length document ≤ document_limit
-      → (r ≡ NoMemory) ⊎ ((r ≡ OtherDocument) × ((table : List (List ℕ)) (v : Plain) → ¬ (IsDocument table document v))) → IsEarlyRefusal holds words rose r
+      → (r ≡ NoMemory) ⊎ ((p : Position) × (r ≡ NoForest p) × IsNoForest document p) → IsEarlyRefusal holds words rose r
   early_forest holds rose r steps document asked there within (inl no_memory) = subst (IsEarlyRefusal holds words rose) (sym no_memory) tt
-  early_forest None rose r steps document asked there within (inr (other, wrong)) = subst (IsEarlyRefusal None words rose) (sym other) tt
-  early_forest (Some held) rose r steps document asked there within (inr (other, wrong)) =
-      subst (IsEarlyRefusal (Some held) words rose) (sym other) (other_document asked (document_there held document there) within wrong)
+  early_forest None rose r steps document asked there within (inr (p, other, wrong)) = subst (IsEarlyRefusal None words rose) (sym other) tt
+  early_forest (Some held) rose r steps document asked there within (inr (p, other, wrong)) =
+      subst (IsEarlyRefusal (Some held) words rose) (sym other) (no_forest asked (document_there held document there) within wrong)
 
   -- nothing is refused
   pub prepared : (holds : Option Held) (names : List (List ℕ)) (path : List ℕ) (document output : List ℕ) (v w : Plain) → IfSome holds (λ held. AsksDeletion held words (map (name_text names) path))
-      → IfSome holds (λ held. file held d ≡ Some document) → length document ≤ document_limit → IsDocument names document v → Derives standard v (delete_on path) w → output ≡ text names w ++ 10 ∷ []
+      → IfSome holds (λ held. file held d ≡ Some document) → length document ≤ document_limit → Spells names document v → Derives standard v (delete_on path) w → output ≡ text names w ++ 10 ∷ []
       → IsOutput holds words output
   prepared None names path document output v w asked there within spelled derived is_output = tt
   prepared (Some held) names path document output v w asked there within spelled derived is_output =

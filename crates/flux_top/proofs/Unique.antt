@@ -13,15 +13,21 @@ use Rattle.flux_trees.specs.Hedge.{Plain}
 use Rattle.flux_trees.specs.Each.{EachLabel}
 use Rattle.flux_doctext.specs.Text.{text, name_text, NamesLabel}
 use Rattle.flux_doctext.proofs.Alike.{Alike, alike_nil, alike_elem, alike_leaf, alike_join, alike_text}
-use Rattle.flux_doctext.proofs.TextLaws.{NamesLabel-found, text_alike, text-no_newline_last}
+use Rattle.flux_doctext.proofs.TextLaws.{NamesLabel-found}
+use Rattle.flux_doctext.specs.Spells.{Spells, IsViable}
+use Rattle.flux_top.proofs.Spelled.{spelled_alike, spelled_labels}
+use Rattle.flux_top.proofs.Places.{position_one, longest_one}
+use Rattle.flux_top.specs.Places.{IsPosition}
 use Rattle.flux_calculus.specs.Core.{standard}
 use Rattle.flux_calculus.specs.Derives.{Derives}
 use Rattle.flux_calculus.specs.Paths.{delete_on}
 use Rattle.flux_calculus.proofs.Agree.{derives_one}
 use Rattle.flux_top.specs.Script.{IsStep, IsLine, EndsInNewline, DeletesPath}
-use Rattle.flux_top.specs.Document.{IsDocument}
-use Rattle.flux_top.specs.Answer.{Answer, usage, long_script, other_script, long_document, other_document, done}
+use Rattle.flux_top.specs.Answer.{Answer, usage, long_script, other_script, IsNoForest, long_document, no_forest, done}
 use Rattle.flux_top.specs.Unique.{AnswerIsUnique}
+use Rattle.flux_top.specs.Lines.{line_of}
+use Rattle.flux_top.specs.declared.refusal.Refusal.TheVariants.{NoForest}
+use Rattle.flux_top.specs.declared.position.Position.{Position}
 use Rattle.flux_top.specs.declared.status.Status.{Status}
 use Rattle.flux_top.proofs.PathLaws.{path_not_ended, split_path}
 use Rattle.flux_top.proofs.Preparing.{steps_some}
@@ -41,9 +47,6 @@ steps_one script steps others is are =
     let lines = line_one script _ _ (path_not_ended steps is.each) (path_not_ended others are.each) is.line are.line in
     let joined = append_cancel_left (codes "DELETE ") (join_with_byte 47 steps) (join_with_byte 47 others) lines in
     sym (split_path steps is.some is.each) ∙ ap (slice_split (λ b. b == 47)) joined ∙ split_path others are.some are.each
-
-text_ends : (names : List (List ℕ)) (v : Plain) → ¬ (EndsInNewline (text names v))
-text_ends names v (front, is) = text-no_newline_last names v front is
 
 -- a number whose text is a label is one of the table's
 label_named : (names : List (List ℕ)) (a : ℕ) → IsLabel (name_text names a) → NamesLabel names a
@@ -111,14 +114,13 @@ module _ (names others : List (List ℕ)) (table : IsTable names) (other_table :
 
 -- the text of the result is one, whatever the tables are
 result_one : (names others : List (List ℕ)) (path other : List ℕ) (script document : List ℕ) (v v' w w' : Plain) → DeletesPath script (map (name_text names) path) → DeletesPath script (map (name_text others) other)
-    → IsDocument names document v → IsDocument others document v' → Derives standard v (delete_on path) w → Derives standard v' (delete_on other) w' → text names w ≡ text others w'
+    → Spells names document v → Spells others document v' → Derives standard v (delete_on path) w → Derives standard v' (delete_on other) w' → text names w ≡ text others w'
 result_one names others path other script document v v' w w' is are spelled other_spelled derived other_derived =
-    let texts : text names v ≡ text others v' = line_one document _ _ (text_ends names v) (text_ends others v') spelled.line other_spelled.line in
-    let forests = text_alike names others v v' spelled.forest.labels other_spelled.forest.labels texts in
+    let forests = spelled_alike names others document v v' spelled other_spelled in
     let paths = path_alike names others path other is.each are.each (steps_one script _ _ is are) in
     let left : w ≡ pruned path v = derives_one derived (pruned_derives standard path (steps_some script names path is) v) in
     let right : w' ≡ pruned other v' = derives_one other_derived (pruned_derives standard other (steps_some script others other are) v') in
-    let results = pruned_alike names others spelled.forest.table other_spelled.forest.table paths forests spelled.forest.labels other_spelled.forest.labels in
+    let results = pruned_alike names others spelled.table other_spelled.table paths forests (spelled_labels names document v spelled) (spelled_labels others document v' other_spelled) in
     ap (text names) left ∙ alike_text results ∙ sym (ap (text others) right)
 
 module _ (held : Held) (words : List (List ℕ)) where
@@ -128,7 +130,7 @@ module _ (held : Held) (words : List (List ℕ)) where
   reached (long_script _ _) = 1
   reached (other_script _ _ _) = 2
   reached (long_document _ _ _) = 3
-  reached (other_document _ _ _ _) = 4
+  reached (no_forest _ _ _ _) = 4
   reached (done _ _ _ _ _ _) = 5
 
   -- what ends a run leaves no later answer
@@ -136,22 +138,22 @@ module _ (held : Held) (words : List (List ℕ)) where
   none_later (usage none) (long_script named _) later = no_form held words _ _ named.form_is none
   none_later (usage none) (other_script named _ _) later = no_form held words _ _ named.form_is none
   none_later (usage none) (long_document asked _ _) later = no_form held words _ _ asked.named.form_is none
-  none_later (usage none) (other_document asked _ _ _) later = no_form held words _ _ asked.named.form_is none
+  none_later (usage none) (no_forest asked _ _ _) later = no_form held words _ _ asked.named.form_is none
   none_later (usage none) (done _ asked _ _ _ _) later = no_form held words _ _ asked.named.form_is none
   none_later (long_script {script} named long) (other_script {script = other} again short _) later =
       omega (arith, long, short, ap length (script_one held words script other named again))
   none_later (long_script {script} named long) (long_document asked _ _) later = omega (arith, long, asks_short held words script asked named)
-  none_later (long_script {script} named long) (other_document asked _ _ _) later = omega (arith, long, asks_short held words script asked named)
+  none_later (long_script {script} named long) (no_forest asked _ _ _) later = omega (arith, long, asks_short held words script asked named)
   none_later (long_script {script} named long) (done _ asked _ _ _ _) later = omega (arith, long, asks_short held words script asked named)
   none_later (other_script {script} named _ wrong) (long_document asked _ _) later = wrong _ (asks_path held words script asked named)
-  none_later (other_script {script} named _ wrong) (other_document asked _ _ _) later = wrong _ (asks_path held words script asked named)
+  none_later (other_script {script} named _ wrong) (no_forest asked _ _ _) later = wrong _ (asks_path held words script asked named)
   none_later (other_script {script} named _ wrong) (done _ asked _ _ _ _) later = wrong _ (asks_path held words script asked named)
-  none_later (long_document {document} _ named long) (other_document {document = other} _ again short _) later =
+  none_later (long_document {document} _ named long) (no_forest {document = other} _ again short _) later =
       omega (arith, long, short, ap length (document_one held words document other named again))
   none_later (long_document {document} _ named long) (done {document = other} _ _ again short _ _) later =
       omega (arith, long, short, ap length (document_one held words document other named again))
-  none_later (other_document {document} _ named _ wrong) (done {document = other} {names} _ {v} _ again _ spelled _) later =
-      wrong names v (subst (λ d. IsDocument names d v) (document_one held words other document again named) spelled)
+  none_later (no_forest {document} _ named _ wrong) (done {document = other} {names} _ {v} _ again _ spelled _) later =
+      wrong.none.spells_none names v (subst (λ d. Spells names d v) (document_one held words other document again named) spelled)
   none_later (done _ _ _ _ _ _) (usage _) later = omega (arith, later)
   none_later _ _ later = omega (arith, later)
 
@@ -168,9 +170,13 @@ module _ (held : Held) (words : List (List ℕ)) where
   same_answer (long_script _ _) (long_script _ _) same = (refl, refl, refl)
   same_answer (other_script _ _ _) (other_script _ _ _) same = (refl, refl, refl)
   same_answer (long_document _ _ _) (long_document _ _ _) same = (refl, refl, refl)
-  same_answer (other_document _ _ _ _) (other_document _ _ _ _) same = (refl, refl, refl)
+  same_answer (no_forest {document} {p} _ named _ wrong) (no_forest {document = again} {p = q} _ other_named _ other_wrong) same =
+      let wrong_again = subst (λ d. IsNoForest d q) (document_one held words again document other_named named) other_wrong in
+      let place = longest_one IsViable document wrong.place wrong_again.place wrong.none.longest wrong_again.none.longest in
+      let position = position_one document wrong.place p q wrong.position (subst (λ n. IsPosition document n q) (sym place) wrong_again.position) in
+      (refl, refl, ap (λ (r : Position). line_of (NoForest r)) position)
   same_answer (done {document} {names} path {v} {w} asked named _ spelled derived) (done {document = again} {names = others} other {v = v'} {w = w'} other_asked other_named _ other_spelled other_derived) same =
-      let spelled_again = subst (λ d. IsDocument others d v') (document_one held words again document other_named named) other_spelled in
+      let spelled_again = subst (λ d. Spells others d v') (document_one held words again document other_named named) other_spelled in
       let deletes_again = asks_path held words asked.script other_asked asked.named in
       let texts = result_one names others path other asked.script document v v' w w' asked.deletes deletes_again spelled spelled_again derived other_derived in
       (refl, ap (λ t. t ++ 10 ∷ []) texts, refl)

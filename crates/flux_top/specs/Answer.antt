@@ -3,16 +3,19 @@ use Rattle.std.specs.Prelude.{◌≡◌, ◌<◌, ◌≤◌, ℕ, List, [], ◌�
 use Rattle.flux_io.specs.Outside.{Held, file}
 use Rattle.flux_trees.specs.Hedge.{Plain}
 use Rattle.flux_doctext.specs.Text.{text, name_text}
+use Rattle.flux_doctext.specs.Spells.{Spells}
+use Rattle.flux_doctext.specs.Documents.{IsNoDocument}
 use Rattle.flux_calculus.specs.Core.{standard}
 use Rattle.flux_calculus.specs.Derives.{Derives}
 use Rattle.flux_calculus.specs.Paths.{delete_on}
 use Rattle.flux_top.specs.Words.{form}
 use Rattle.flux_top.specs.Lines.{status_of, line_of}
 use Rattle.flux_top.specs.Script.{DeletesPath}
-use Rattle.flux_top.specs.Document.{IsDocument}
+use Rattle.flux_top.specs.Places.{IsPosition}
+use Rattle.flux_top.specs.declared.position.Position.{Position}
 use Rattle.flux_top.specs.declared.status.Status.{Status}
 use Rattle.flux_top.specs.declared.status.Status.TheVariants.{Done}
-use Rattle.flux_top.specs.declared.refusal.Refusal.TheVariants.{WrongWords, LongScript, OtherScript, LongDocument, OtherDocument}
+use Rattle.flux_top.specs.declared.refusal.Refusal.TheVariants.{WrongWords, LongScript, OtherScript, LongDocument, NoForest}
 
 -- the most bytes of a script, and of a document
 abbrev pub script_limit : ℕ
@@ -42,6 +45,12 @@ pub record AsksDeletion (held : Held) (words : List (List ℕ)) (steps : List (L
   pub within : length script ≤ script_limit
   pub deletes : DeletesPath script steps
 
+-- the document spells no forest: the position is that of the end of its longest viable prefix
+pub record IsNoForest (document : List ℕ) (p : Position) : Type 0 where
+  pub place : ℕ
+  pub none : IsNoDocument document place
+  pub position : IsPosition document place p
+
 -- Answer held words status output line: the status, the bytes of the output, the line of a refusal
 pub data Answer (held : Held) (words : List (List ℕ)) : Status → List ℕ → List ℕ → Type 0 where
   usage : form words ≡ None → Answer held words (status_of WrongWords) [] (line_of WrongWords)
@@ -51,11 +60,10 @@ pub data Answer (held : Held) (words : List (List ℕ)) : Status → List ℕ �
       → Answer held words (status_of OtherScript) [] (line_of OtherScript)
   long_document : {steps : List (List ℕ)} {document : List ℕ} → AsksDeletion held words steps → NamesDocument held words document → document_limit < length document
       → Answer held words (status_of LongDocument) [] (line_of LongDocument)
-  other_document : {steps : List (List ℕ)} {document : List ℕ} → AsksDeletion held words steps → NamesDocument held words document → length document ≤ document_limit
-      → ((names : List (List ℕ)) (v : Plain) → ¬ (IsDocument names document v))
-      → Answer held words (status_of OtherDocument) [] (line_of OtherDocument)
+  no_forest : {steps : List (List ℕ)} {document : List ℕ} {p : Position} → AsksDeletion held words steps → NamesDocument held words document → length document ≤ document_limit
+      → IsNoForest document p → Answer held words (status_of (NoForest p)) [] (line_of (NoForest p))
   done : {document : List ℕ} {names : List (List ℕ)} (path : List ℕ) {v w : Plain} → AsksDeletion held words (map (name_text names) path) → NamesDocument held words document
-      → length document ≤ document_limit → IsDocument names document v → Derives standard v (delete_on path) w
+      → length document ≤ document_limit → Spells names document v → Derives standard v (delete_on path) w
       → Answer held words Done (text names w ++ 10 ∷ []) []
 
 -- a file whose turn has come isn't there: the script, or the document of a script that is taken

@@ -5,9 +5,10 @@ use Rattle.flux_io.specs.Outside.{Held}
 use Rattle.flux_top.specs.Words.{form}
 use Rattle.flux_top.specs.Lines.{line_of}
 use Rattle.flux_top.specs.Answer.{Answer, Lacking}
+use Rattle.flux_top.specs.declared.position.Position.{Position}
 use Rattle.flux_top.specs.declared.status.Status.{Status}
 use Rattle.flux_top.specs.declared.status.Status.TheVariants.{Done, Script, Usage, DocText, ReadFault, WriteFault, Memory}
-use Rattle.flux_top.specs.declared.refusal.Refusal.TheVariants.{WrongWords, LongScript, OtherScript, LongDocument, OtherDocument, NoRead, NoWrite}
+use Rattle.flux_top.specs.declared.refusal.Refusal.TheVariants.{WrongWords, LongScript, OtherScript, LongDocument, NoForest, NoRead, NoWrite}
 
 -- the answer has this status
 abbrev pub Answers : Held → List (List ℕ) → Status → Type 0
@@ -49,7 +50,7 @@ Writes Is old new ReadFault = new ≡ old
 abbrev pub IsLineOf : Option Held → List (List ℕ) → Status → List ℕ → Type 0
 IsLineOf holds words Usage line = line ≡ line_of WrongWords
 IsLineOf holds words Script line = ((line ≡ line_of LongScript) ⊎ (line ≡ line_of OtherScript)) × IfSome holds (λ held. Answer held words Script [] line)
-IsLineOf holds words DocText line = ((line ≡ line_of LongDocument) ⊎ (line ≡ line_of OtherDocument)) × IfSome holds (λ held. Answer held words DocText [] line)
+IsLineOf holds words DocText line = ((line ≡ line_of LongDocument) ⊎ ((p : Position) × (line ≡ line_of (NoForest p)))) × IfSome holds (λ held. Answer held words DocText [] line)
 IsLineOf holds words ReadFault line = line ≡ line_of NoRead
 IsLineOf holds words WriteFault line = line ≡ line_of NoWrite
 IsLineOf holds words Done line = ⊥

@@ -1,6 +1,5 @@
 pub mod Script
-pub mod Document
-pub mod Reading
+pub mod Places
 pub mod Words
 pub mod Lines
 pub mod Answer

@@ -1,9 +1,10 @@
 -- How a run ends, and the line that a refusal writes.
 use Rattle.std.specs.Prelude.{ℕ, List, [], ◌∷◌, ◌++◌, codes}
+use Rattle.std.specs.Fmt.{decimal}
 use Rattle.flux_top.specs.declared.status.Status.{Status}
 use Rattle.flux_top.specs.declared.status.Status.TheVariants.{Done, Script, Usage, DocText, ReadFault, WriteFault, Memory}
 use Rattle.flux_top.specs.declared.refusal.Refusal.{Refusal}
-use Rattle.flux_top.specs.declared.refusal.Refusal.TheVariants.{WrongWords, LongScript, OtherScript, LongDocument, OtherDocument, NoRead, NoWrite, NoMemory}
+use Rattle.flux_top.specs.declared.refusal.Refusal.TheVariants.{WrongWords, LongScript, OtherScript, LongDocument, NoForest, NoRead, NoWrite, NoMemory}
 
 -- the number of a status, with which the program ends
 abbrev pub number_of : Status → ℕ
@@ -21,7 +22,7 @@ status_of WrongWords = Usage
 status_of LongScript = Script
 status_of OtherScript = Script
 status_of LongDocument = DocText
-status_of OtherDocument = DocText
+status_of (NoForest p) = DocText
 status_of NoRead = ReadFault
 status_of NoWrite = WriteFault
 status_of NoMemory = Memory
@@ -32,7 +33,7 @@ line_of WrongWords = codes "usage: flux check SCRIPT | run [--depth N] SCRIPT DO
 line_of LongScript = codes "script: longer than 1048576 bytes" ++ 10 ∷ []
 line_of OtherScript = codes "script: not built yet" ++ 10 ∷ []
 line_of LongDocument = codes "document: longer than 33554432 bytes" ++ 10 ∷ []
-line_of OtherDocument = codes "document: not canonical" ++ 10 ∷ []
+line_of (NoForest p) = codes "document:" ++ (decimal p.line ++ (codes ":" ++ (decimal p.column ++ (codes ": no forest" ++ 10 ∷ []))))
 line_of NoRead = codes "flux: read fault" ++ 10 ∷ []
 line_of NoWrite = codes "flux: write fault" ++ 10 ∷ []
 line_of NoMemory = codes "flux: out of memory" ++ 10 ∷ []

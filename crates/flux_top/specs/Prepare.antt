@@ -5,7 +5,7 @@ use Rattle.flux_top.specs.Words.{form}
 use Rattle.flux_top.specs.Lines.{status_of, line_of}
 use Rattle.flux_top.specs.Answer.{Answer, Lacking}
 use Rattle.flux_top.specs.declared.refusal.Refusal.{Refusal}
-use Rattle.flux_top.specs.declared.refusal.Refusal.TheVariants.{WrongWords, LongScript, OtherScript, LongDocument, OtherDocument, NoRead, NoWrite, NoMemory}
+use Rattle.flux_top.specs.declared.refusal.Refusal.TheVariants.{WrongWords, LongScript, OtherScript, LongDocument, NoForest, NoRead, NoWrite, NoMemory}
 
 -- a file could not be read, or is longer than its limit, or there was no memory
 abbrev pub IsFileRefusal : Option Held → List ℕ → (limit : ℕ) → (too_long : Refusal) → (rose : Type 0) → Refusal → Type 0
@@ -24,7 +24,7 @@ IsEarlyRefusal holds words rose WrongWords = form words ≡ None
 IsEarlyRefusal holds words rose LongScript = IsRefused holds words LongScript
 IsEarlyRefusal holds words rose OtherScript = IsRefused holds words OtherScript
 IsEarlyRefusal holds words rose LongDocument = IsRefused holds words LongDocument
-IsEarlyRefusal holds words rose OtherDocument = IsRefused holds words OtherDocument
+IsEarlyRefusal holds words rose (NoForest p) = IsRefused holds words (NoForest p)
 IsEarlyRefusal holds words rose NoRead = (rose × IsSome (form words)) ⊎ IsSomeAnd holds (λ held. Lacking held words)
 IsEarlyRefusal holds words rose NoWrite = ⊥
 IsEarlyRefusal holds words rose NoMemory = Unit {0}

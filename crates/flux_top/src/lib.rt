@@ -2,10 +2,9 @@
 #![tactic(auto)]
 
 mod delete;
-mod document;
 mod laws;
 mod path;
-mod quoted;
+mod position;
 mod refusal;
 mod run;
 mod script;

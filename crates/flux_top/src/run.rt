@@ -10,20 +10,20 @@ ghost use Rattle.flux_calculus.specs.Derives.{Derives};
 ghost use Rattle.flux_calculus.specs.Paths.{delete_on};
 ghost use Rattle.flux_doctext.specs.Text.{text, name_text};
 ghost use Rattle.flux_top.specs.Script.{DeletesPath};
-ghost use Rattle.flux_top.specs.Document.{IsDocument};
+ghost use Rattle.flux_doctext.specs.Spells.{Spells};
 ghost use Rattle.flux_top.specs.Words.{texts, form};
-ghost use Rattle.flux_top.specs.Answer.{Lacking};
+ghost use Rattle.flux_top.specs.Answer.{Lacking, IsNoForest};
 ghost use Rattle.flux_top.specs.Clauses.{IsStatus, IsComplete, IsOutput, Writes, Shows};
 ghost use Rattle.flux_top.specs.Prepare.{IsFileRefusal, IsEarlyRefusal};
 
 use crate::Status;
 use crate::delete::deleted;
-use crate::document::read_canonical;
 use crate::path::read_path;
+use crate::position::{Position, position_of};
 use crate::refusal::{Refusal, refuse};
 use crate::words::file_names;
 use flux_atom::{Name, Names};
-use flux_doctext::write_forest;
+use flux_doctext::{DocFault, read_document, write_forest};
 use flux_forest::Forest;
 use flux_io::{Fault, Folder, Refused, Sink, read_all, write_all};
 use std::alloc::{AllocError, Global};
@@ -55,17 +55,20 @@ fn read_file<F: Folder>(
     }
 }
 
-// The forest whose canonical text the document is. The document is let go.
+// The forest that the document spells. The document is let go.
 fn read_forest(alloc: Global, document: Vec<u8>, names: &mut Names) -> Result<Forest, Refusal>
     requires { length names.old + length document.items < 2 ^ 32 - 1 }
     ensures grown { (more : List (List ℕ)) × (names.new ≡ names.old ++ more) }
-    ensures forest { IfOk result (λ forest. (v : Plain) × (forest ≡ done v) × IsDocument names.new document.items v) }
-    ensures refused { IfErr result (λ refusal. (refusal ≡ Refusal.NoMemory) ⊎ ((refusal ≡ Refusal.OtherDocument) × ((table : List (List ℕ)) (v : Plain) → ¬ (IsDocument table document.items v)))) }
+    ensures forest { IfOk result (λ forest. (v : Plain) × (forest ≡ done v) × Spells names.new document.items v) }
+    ensures refused { IfErr result (λ refusal. (refusal ≡ Refusal.NoMemory) ⊎ ((p : Position) × (refusal ≡ Refusal.NoForest p) × IsNoForest document.items p)) }
 {
-    match read_canonical(alloc, document.as_slice(), names) {
-        Ok(Some(forest)) => Ok(forest),
-        Ok(None) => Err(Refusal::OtherDocument),
-        Err(_) => Err(Refusal::NoMemory),
+    match read_document(alloc, document.as_slice(), names) {
+        Ok(forest) => Ok(forest),
+        Err(DocFault::Text { place }) => {
+            let position = position_of(document.as_slice(), place);
+            Err(Refusal::NoForest(position))
+        }
+        Err(DocFault::Memory(_)) => Err(Refusal::NoMemory),
     }
 }
 
@@ -90,6 +93,7 @@ fn result_text(
 
 // All that comes before the write: what is to be written, or the refusal.
 fn prepare<F: Folder>(alloc: Global, words: &[String], folder: &mut F) -> Result<Vec<u8>, Refusal>
+    ensures same { F.holds folder.new ≡ F.holds folder.old }
     ensures later { F.faults folder.old ≤ F.faults folder.new }
     ensures output { IfOk result (λ output. IsOutput (F.holds folder.old) (texts words.now) output.items) }
     ensures form { IfOk result (λ output. IsSome (form (texts words.now))) }
@@ -134,15 +138,17 @@ pub fn flux<F: Folder, W: Sink, X: Sink>(
     ensures read_fault { result ≡ Status.ReadFault → (Rose (F.faults folder.old) (F.faults folder.new) × IsSome (form (texts words.now.items))) ⊎ IsSomeAnd (F.holds folder.old) (λ held. Lacking held (texts words.now.items)) }
     ensures write_fault { result ≡ Status.WriteFault → Rose (W.faults out.old) (W.faults out.new) × IsSome (form (texts words.now.items)) }
     ensures output { Writes (IsOutput (F.holds folder.old) (texts words.now.items)) (W.written out.old) (W.written out.new) result }
+    ensures same { F.holds folder.new ≡ F.holds folder.old }
+    ensures later { (F.faults folder.old ≤ F.faults folder.new) × (W.faults out.old ≤ W.faults out.new) × (X.faults err.old ≤ X.faults err.new) }
     ensures line { Shows (F.holds folder.old) (texts words.now.items) (X.written err.old) (X.written err.new) (Rose (X.faults err.old) (X.faults err.new)) result }
 {
     let output = match prepare(alloc, words.as_slice(), folder) {
         Ok(output) => output,
-        Err(refusal) => return refuse(err, refusal),
+        Err(refusal) => return refuse(alloc, err, refusal),
     };
     match write_all(out, output.as_slice()) {
         Ok(()) => Status::Done,
-        Err(Refused::Failed) => refuse(err, Refusal::NoWrite),
-        Err(Refused::Memory(_)) => refuse(err, Refusal::NoMemory),
+        Err(Refused::Failed) => refuse(alloc, err, Refusal::NoWrite),
+        Err(Refused::Memory(_)) => refuse(alloc, err, Refusal::NoMemory),
     }
 }

@@ -11,7 +11,7 @@ pub enum Status {
     Script = 1,
     /// The words are of no form.
     Usage = 2,
-    /// The document is over its limit, or no canonical text.
+    /// The document is over its limit, or spells no forest.
     DocText = 3,
     /// A file couldn't be read.
     ReadFault = 6,

@@ -74,12 +74,13 @@ fn runs(rt: HostRuntime) -> Result<(), Fail> {
     let table = [
         (SCRIPT, DOCUMENT, Status::Done, RESULT, ""),
         ("DELETE a", "()", Status::Done, "()\n", ""),
+        (SCRIPT, "lib[ ]", Status::Done, "lib[]\n", ""),
         (
-            SCRIPT,
-            "lib[ ]",
-            Status::DocText,
+            "DELETE a",
+            " a [ \"x\" ] , b[] \n",
+            Status::Done,
+            "b[]\n",
             "",
-            "document: not canonical\n",
         ),
         (
             "SKIP",
@@ -108,6 +109,55 @@ fn runs(rt: HostRuntime) -> Result<(), Fail> {
         assert_eq!(rt; ended.status, status, "{script} on {document}");
         assert_eq!(rt; ended.out.bytes(), out.as_bytes(), "{script} on {document}");
         assert_eq!(rt; ended.err.bytes(), err.as_bytes(), "{script} on {document}");
+    }
+    Ok(())
+}
+
+// Documents that are spelled in other ways, and what isn't one: where its longest viable prefix ends.
+#[test]
+fn reads_documents(rt: HostRuntime) -> Result<(), Fail> {
+    let table = [
+        (
+            "a[\"\\u{41}\\\"\\n\"]",
+            Status::Done,
+            "a[\"A\\\"\\n\"]\n",
+            "",
+        ),
+        ("\t( )\r\n", Status::Done, "()\n", ""),
+        ("a[()],true", Status::Done, "a[],true\n", ""),
+        (
+            "lib[book[\"A\"",
+            Status::DocText,
+            "",
+            "document:1:13: no forest\n",
+        ),
+        (
+            "\"\\u{00D800}\"",
+            Status::DocText,
+            "",
+            "document:1:10: no forest\n",
+        ),
+        ("", Status::DocText, "", "document:1:1: no forest\n"),
+        ("\n\n", Status::DocText, "", "document:3:1: no forest\n"),
+        (
+            "lib[\n book[],\n ]",
+            Status::DocText,
+            "",
+            "document:3:2: no forest\n",
+        ),
+        (
+            "a[\"\nb\"\"\"]",
+            Status::DocText,
+            "",
+            "document:2:3: no forest\n",
+        ),
+        ("a[]]\n", Status::DocText, "", "document:1:4: no forest\n"),
+    ];
+    for (document, status, out, err) in table {
+        let ended = run(rt.alloc(), "DELETE x", document)?;
+        assert_eq!(rt; ended.status, status, "{document}");
+        assert_eq!(rt; ended.out.bytes(), out.as_bytes(), "{document}");
+        assert_eq!(rt; ended.err.bytes(), err.as_bytes(), "{document}");
     }
     Ok(())
 }
@@ -344,7 +394,7 @@ fn keeps_the_limits(rt: HostRuntime) -> Result<(), Fail> {
         assert_eq!(rt; ended.err.bytes(), line.as_bytes());
     }
     for (length, line) in [
-        (33_554_432, "document: not canonical\n"),
+        (33_554_432, "document:1:33554433: no forest\n"),
         (33_554_433, "document: longer than 33554432 bytes\n"),
     ] {
         let document = Vec::from_elem(alloc, b' ', length)?;
