@@ -394,10 +394,10 @@ fn keeps_the_limits(rt: HostRuntime) -> Result<(), Fail> {
         assert_eq!(rt; ended.err.bytes(), line.as_bytes());
     }
     for (length, line) in [
-        (33_554_432, "document:1:33554433: no forest\n"),
+        (33_554_432, "document:1:1: no forest\n"),
         (33_554_433, "document: longer than 33554432 bytes\n"),
     ] {
-        let document = Vec::from_elem(alloc, b' ', length)?;
+        let document = Vec::from_elem(alloc, b',', length)?;
         let files = folder(alloc, SCRIPT.as_bytes(), document.as_slice(), 0)?;
         let ended = end(
             alloc,
