@@ -1,5 +1,7 @@
 mod Characters
 pub mod LiteralLaws
+mod Places
+mod ReadLaws
 mod ReservedLaws
 mod Runs
 mod Tables
