@@ -1,5 +1,4 @@
 mod Characters
-pub mod LiteralLaws
 mod Places
 mod ReadLaws
 mod ReservedLaws
