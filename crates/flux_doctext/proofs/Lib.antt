@@ -1,4 +1,5 @@
 pub mod Alike
+pub mod CanonicalLaws
 pub mod DocumentLaws
 mod Drafts
 pub mod LabelLaws

@@ -1,8 +1,20 @@
-// What the canonical texts are good for.
+// What the definitions of document text are good for.
+ghost use Rattle.flux_doctext.specs.Documents.{CanonicalTextSpells, SpelledForestIsUnique};
 ghost use Rattle.flux_doctext.specs.Text.{TextTellsForest};
 
 /// Where the text of each label is a label, the canonical text of a forest is the text of no other
 /// forest. It does nothing: its contract is the law.
 pub fn text_tells_forest()
     ensures { TextTellsForest }
+{}
+
+/// The canonical text of a forest whose labels are labels of a table, and whose texts are
+/// characters, spells that forest and no other. It does nothing: its contract is the law.
+pub fn canonical_text_spells()
+    ensures { CanonicalTextSpells }
+{}
+
+/// Bytes spell one forest at most. It does nothing: its contract is the law.
+pub fn spelled_forest_is_unique()
+    ensures { SpelledForestIsUnique }
 {}

@@ -7,7 +7,7 @@ mod reader;
 mod sign;
 mod write;
 
-pub use laws::text_tells_forest;
+pub use laws::{canonical_text_spells, spelled_forest_is_unique, text_tells_forest};
 pub use read::{DocFault, read_document};
 pub use write::write_forest;
 

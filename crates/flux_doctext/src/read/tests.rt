@@ -161,6 +161,7 @@ fn names_in_the_order_of_the_text(rt: HostRuntime) -> Result<(), Fail> {
     assert_eq!(rt; names.len(), 5);
     let mut order = Names::new(alloc);
     for (place, text) in ["c", "a", "d", "b", "e"].iter().enumerate() {
+        assert!(rt; names.len() < 100 && order.len() < 100);
         let name = names.intern(text)?;
         assert_eq!(rt; order.intern(text)?, name, "{place}");
     }
