@@ -2,7 +2,11 @@
 //! 2008): what its statements make of a forest, by rules. Definitions and laws, and no code.
 #![tactic(auto)]
 
+mod ask;
+
 ghost use Rattle.flux_calculus.specs.Laws.{DerivationIsComputed, DerivationIsUnique};
+
+pub use ask::{Test, Var};
 
 /// A statement makes a forest of another by the rules exactly where the function that carries
 /// statements out gives it. It does nothing: its contract is the law.
