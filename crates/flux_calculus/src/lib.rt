@@ -6,7 +6,7 @@ mod ask;
 
 ghost use Rattle.flux_calculus.specs.Laws.{DerivationIsComputed, DerivationIsUnique};
 
-pub use ask::{Test, Var};
+pub use ask::{Span, Test, Var};
 
 /// A statement makes a forest of another by the rules exactly where the function that carries
 /// statements out gives it. It does nothing: its contract is the law.
