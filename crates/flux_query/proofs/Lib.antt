@@ -1,1 +1,2 @@
 pub mod EnvLaws
+pub mod TreeLaws

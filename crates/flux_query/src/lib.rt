@@ -4,6 +4,7 @@
 
 mod env;
 mod query;
+mod trees;
 
 pub use env::Env;
 pub use flux_calculus::{Span, Test, Var};
