@@ -1,7 +1,11 @@
 -- What one tree of a forest adds to what is made of all of them.
-use Rattle.std.proofs.Common.{◌≡◌, Bool, true, false, List, [], ◌∷◌, Some, IsSome, refl, ap, ap₂, ◌∙◌, sym, if◌then◌else◌}
+use Rattle.std.proofs.lemmas.Bool.Decides.{same_from_decides}
+use Rattle.flux_atom.specs.declared.atom.Atom.TheVariants.{Bool as Truth}
+use Rattle.std.proofs.Common.{◌≡◌, ◌↔◌, IsTrue, Bool, true, false, List, [], ◌∷◌, Some, IsSome, refl, ap, ap₂, ◌∙◌, sym, if◌then◌else◌}
 use Rattle.flux_trees.specs.Hedge.{Plain, nil, elem, leaf, join, trees, opened}
 use Rattle.flux_trees.specs.Draft.{Draft, add}
+use Rattle.flux_trees.specs.Same.{same}
+use Rattle.flux_trees.proofs.SameLaws.{same-Decides}
 use Rattle.flux_trees.proofs.HedgeLaws.{join-nil}
 use Rattle.flux_trees.proofs.DraftLaws.{add-add, add-nil}
 use Rattle.flux_calculus.specs.declared.ask.Test.{Test}
@@ -58,3 +62,8 @@ end_of_passing t h d e = ap (λ h. add d (passing t h)) (trees-differ h nil e) �
 -- a tree that does not pass adds nothing
 pub failing : (b : Bool) (u : Plain) (d : Draft (Unit {0})) → false ≡ b → d ≡ add d (if b then u else nil)
 failing b u d e = sym (ap (λ b. add d (if b then u else nil)) (sym e) ∙ add-nil d)
+
+-- whether two forests are the same, as an atom
+pub same_atom_added : (b : Bool) (v w : Plain) (d : Draft (Unit {0})) → IsTrue b ↔ (v ≡ w) → add d (leaf tt (Truth b) nil) ≡ add d (leaf tt (Truth (same v w)) nil)
+same_atom_added b v w d e =
+    ap (λ b. add d (leaf tt (Truth b) nil)) (same_from_decides b (same v w) e (same-Decides v w))

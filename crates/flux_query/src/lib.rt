@@ -3,9 +3,11 @@
 #![tactic(auto)]
 
 mod env;
+mod evaluate;
 mod query;
 mod trees;
 
 pub use env::Env;
+pub use evaluate::eval;
 pub use flux_calculus::{Span, Test, Var};
 pub use query::Query;

@@ -1,6 +1,8 @@
 // What queries ask of forests.
 ghost use Rattle.std.specs.Prelude.{◌≡◌, Some, IsSome, OnOk, if◌then◌else◌};
-ghost use Rattle.flux_trees.specs.Hedge.{nil};
+ghost use Rattle.flux_trees.specs.Hedge.{nil, leaf};
+ghost use Rattle.flux_trees.specs.Same.{same};
+ghost use Rattle.flux_atom.specs.declared.atom.Atom.TheVariants.{Bool};
 ghost use Rattle.flux_trees.specs.Draft.{add};
 ghost use Rattle.flux_forest.specs.View.{forest_of};
 ghost use Rattle.flux_calculus.specs.Core.{matches};
@@ -41,6 +43,18 @@ fn passes(test: &Test, view: View<'_>) -> bool
         (Test::OfBool, First::Atom(Atom::Bool(_))) => true,
         _ => false,
     }
+}
+
+// Adds whether two runs have the same trees.
+pub(crate) fn push_same(
+    left: View<'_>,
+    right: View<'_>,
+    values: &mut Forest,
+) -> Result<(), AllocError>
+    ensures { OnOk result (values.new ≡ add values.old (leaf tt (Bool (same (forest_of left.entry) (forest_of right.entry))) nil)) }
+{
+    values.push_atom(Atom::Bool(left.equal(right)))?;
+    Ok(())
 }
 
 // Adds a tree where it passes a test.

@@ -1,0 +1,204 @@
+// The values of queries.
+ghost use Rattle.std.specs.Prelude.{◌≡◌, Some, IsSome, IfSome, IfOk, OnOk};
+ghost use Rattle.flux_trees.specs.Draft.{depth, outer};
+ghost use Rattle.flux_forest.specs.View.{forest_of};
+ghost use Rattle.flux_calculus.specs.Query.{found, value, and_value, content_of_one};
+ghost use Rattle.flux_query.specs.Read.{query_of, queries_of};
+ghost use Rattle.flux_query.specs.Added.{added, in_element, kept, value_under, values_under};
+
+use crate::trees::{content, push_passing, push_same, truth};
+use crate::{Env, Query};
+use flux_atom::Name;
+use flux_calculus::{Test, Var};
+use flux_forest::{Forest, View};
+use std::alloc::{AllocError, Global};
+
+/// The value of a query, after the table of μXQ's evaluation. The environment is afterwards as it
+/// was, also where memory is wanting.
+#[cycle(eval)]
+pub fn eval(alloc: Global, query: &Query, env: &mut Env) -> Result<Forest, AllocError>
+    requires { IsSome (value env.old (query_of query.now)) }
+    ensures value { IfOk result (λ forest. value env.old (query_of query.now) ≡ Some (outer forest)) }
+    ensures whole { IfOk result (λ forest. depth forest ≡ 0) }
+    ensures unchanged { env.new ≡ env.old }
+{
+    let mut values = Forest::new(alloc);
+    push_value(alloc, query, env, &mut values)?;
+    Ok(values)
+}
+
+// Adds the value of a query.
+#[cycle(eval)]
+fn push_value(
+    alloc: Global,
+    query: &Query,
+    env: &mut Env,
+    values: &mut Forest,
+) -> Result<(), AllocError>
+    requires { IsSome (value env.old (query_of query.now)) }
+    ensures value { OnOk result (added values.old (value env.old (query_of query.now)) ≡ Some values.new) }
+    ensures unchanged { env.new ≡ env.old }
+{
+    match query {
+        Query::Concat(parts, span) => push_values(alloc, parts.as_slice(), span.from, env, values),
+        Query::Elem(name, content, _) => push_element(alloc, content.get(), *name, env, values),
+        Query::Lit(atom, _) => {
+            let atom = flux_atom::copy(alloc, atom)?;
+            values.push_atom(atom)
+        }
+        Query::Var(x, _) => values.append(alloc, of_var(env, *x)),
+        Query::Child(x, _) => values.append(alloc, of_child(env, *x)),
+        Query::Let(x, bound, body, _) => {
+            let bound = eval(alloc, bound.get(), env)?;
+            push_under(alloc, body.get(), *x, bound, env, values)
+        }
+        Query::If(condition, yes, no, _) => {
+            let condition = eval(alloc, condition.get(), env)?;
+            if truth(condition.view()) {
+                push_value(alloc, yes.get(), env, values)
+            } else {
+                push_value(alloc, no.get(), env, values)
+            }
+        }
+        Query::Same(left, right, _) => {
+            let left = eval(alloc, left.get(), env)?;
+            let right = eval(alloc, right.get(), env)?;
+            push_same(left.view(), right.view(), values)
+        }
+        Query::Filter(from, test, _) => push_filtered(alloc, from.get(), test, env, values),
+        Query::For(x, over, body, _) => {
+            let over = eval(alloc, over.get(), env)?;
+            push_each(alloc, body.get(), *x, over.view(), env, values)
+        }
+    }
+}
+
+// Adds the values of queries, one behind the other.
+#[cycle(eval)]
+fn push_values(
+    alloc: Global,
+    queries: &[Query],
+    at: u32,
+    env: &mut Env,
+    values: &mut Forest,
+) -> Result<(), AllocError>
+    requires { IsSome (value env.old (queries_of at queries.now)) }
+    ensures value { OnOk result (added values.old (value env.old (queries_of at queries.now)) ≡ Some values.new) }
+    ensures unchanged { env.new ≡ env.old }
+{
+    for query in queries {
+        push_value(alloc, query, env, values)?;
+    }
+    Ok(())
+}
+
+// Adds an element with the value of a query as its content.
+#[cycle(eval)]
+fn push_element(
+    alloc: Global,
+    content: &Query,
+    name: Name,
+    env: &mut Env,
+    values: &mut Forest,
+) -> Result<(), AllocError>
+    requires { IsSome (value env.old (query_of content.now)) }
+    ensures value { OnOk result (added values.old (in_element name (value env.old (query_of content.now))) ≡ Some values.new) }
+    ensures unchanged { env.new ≡ env.old }
+{
+    values.begin_element(name)?;
+    push_value(alloc, content, env, values)?;
+    values.end_element();
+    Ok(())
+}
+
+// Adds the value of a query where the variable is bound to these trees.
+#[cycle(eval)]
+fn push_under(
+    alloc: Global,
+    body: &Query,
+    x: Var,
+    bound: Forest,
+    env: &mut Env,
+    values: &mut Forest,
+) -> Result<(), AllocError>
+    requires whole { depth bound ≡ 0 }
+    requires value { IsSome (value_under env.old x (query_of body.now) (outer bound)) }
+    ensures value { OnOk result (added values.old (value_under env.old x (query_of body.now) (outer bound)) ≡ Some values.new) }
+    ensures unchanged { env.new ≡ env.old }
+{
+    env.bind(x, bound)?;
+    let result = push_value(alloc, body, env, values);
+    env.unbind();
+    result
+}
+
+// Adds the values of a query where the variable is bound to each tree in turn.
+#[cycle(eval)]
+fn push_each(
+    alloc: Global,
+    body: &Query,
+    x: Var,
+    over: View<'_>,
+    env: &mut Env,
+    values: &mut Forest,
+) -> Result<(), AllocError>
+    requires { IsSome (values_under env.old x (query_of body.now) (forest_of over)) }
+    ensures value { OnOk result (added values.old (values_under env.old x (query_of body.now) (forest_of over.entry)) ≡ Some values.new) }
+    ensures unchanged { env.new ≡ env.old }
+{
+    for tree in over.trees() {
+        push_under(alloc, body, x, tree.copy(alloc)?, env, values)?;
+    }
+    Ok(())
+}
+
+// Adds the trees of a query's value that pass a test.
+#[cycle(eval)]
+fn push_filtered(
+    alloc: Global,
+    from: &Query,
+    test: &Test,
+    env: &mut Env,
+    values: &mut Forest,
+) -> Result<(), AllocError>
+    requires { IsSome (value env.old (query_of from.now)) }
+    ensures value { OnOk result (added values.old (kept test.now (value env.old (query_of from.now))) ≡ Some values.new) }
+    ensures unchanged { env.new ≡ env.old }
+{
+    if let Some(view) = held(from, env) {
+        return push_passing(alloc, test, view, values);
+    }
+    let from = eval(alloc, from, env)?;
+    push_passing(alloc, test, from.view(), values)
+}
+
+// What is bound to the variable.
+fn of_var(env: &Env, x: Var) -> View<'_>
+    requires { IsSome (found env.now x) }
+    ensures { found env.now x ≡ Some (forest_of result) }
+{
+    match env.get(x) {
+        Some(view) => view,
+        None => unreachable!(),
+    }
+}
+
+// What the one tree contains that is bound to the variable.
+fn of_child(env: &Env, x: Var) -> View<'_>
+    requires { IsSome (and_value (found env.now x) content_of_one) }
+    ensures { and_value (found env.now x) content_of_one ≡ Some (forest_of result) }
+{
+    content(of_var(env, x))
+}
+
+// The value of a query where it stands in what is bound, which saves a copy.
+fn held<'e>(query: &Query, env: &'e Env) -> Option<View<'e>>
+    requires { IsSome (value env.now (query_of query.now)) }
+    ensures { IfSome result (λ view. value env.now (query_of query.now) ≡ Some (forest_of view)) }
+{
+    match query {
+        Query::Var(x, _) => Some(of_var(env, *x)),
+        Query::Child(x, _) => Some(of_child(env, *x)),
+        _ => None,
+    }
+}
