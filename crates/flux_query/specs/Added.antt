@@ -3,9 +3,8 @@ use Rattle.std.specs.Prelude.{ℕ, ◌∷◌, Option}
 use Rattle.std.specs.Option.{option_map}
 use Rattle.flux_trees.specs.Hedge.{Plain, nil, elem, trees}
 use Rattle.flux_trees.specs.Draft.{Draft, add}
-use Rattle.flux_calculus.specs.declared.ask.Test.{Test}
 use Rattle.flux_calculus.specs.declared.ask.Var.{Var}
-use Rattle.flux_calculus.specs.Query.{Query, Environment, passing, value, value_each}
+use Rattle.flux_calculus.specs.Query.{Query, Environment, value, value_each}
 
 -- a plain forest that is being written
 abbrev pub PlainDraft : Type 0
@@ -18,10 +17,6 @@ added d value = option_map (add d) value
 -- a value as the content of an element
 abbrev pub in_element : ℕ → Option Plain → Option Plain
 in_element n value = option_map (λ v. elem tt n v nil) value
-
--- the trees of a value that pass a test
-abbrev pub kept : Test → Option Plain → Option Plain
-kept t value = option_map (passing t) value
 
 -- the value of a query where the variable is bound to these trees
 abbrev pub value_under : Environment → Var → Query → Plain → Option Plain

@@ -1,20 +1,27 @@
 // The values of queries.
-ghost use Rattle.std.specs.Prelude.{◌≡◌, Some, IsSome, IfSome, IfOk, OnOk};
+ghost use Rattle.std.specs.Prelude.{◌≡◌, Some, IsSome, IfOk, OnOk};
 ghost use Rattle.flux_trees.specs.Draft.{depth, outer};
 ghost use Rattle.flux_forest.specs.View.{forest_of};
-ghost use Rattle.flux_calculus.specs.Query.{found, value, and_value, content_of_one};
+ghost use Rattle.flux_calculus.specs.Query.{value};
 ghost use Rattle.flux_query.specs.Read.{query_of, queries_of};
-ghost use Rattle.flux_query.specs.Added.{added, in_element, kept, value_under, values_under};
+ghost use Rattle.flux_query.specs.Added.{added, in_element, value_under, values_under};
+ghost use Rattle.flux_query.specs.Values.{trees_of, IsWholeValue};
 
-use crate::trees::{content, push_passing, push_same, truth};
+use crate::trees::{push_passing, push_same, truth};
+use crate::value::{Value, bound, inside};
 use crate::{Env, Query};
 use flux_atom::Name;
-use flux_calculus::{Test, Var};
+use flux_calculus::Var;
 use flux_forest::{Forest, View};
 use std::alloc::{AllocError, Global};
 
-/// The value of a query, after the table of μXQ's evaluation. The environment is afterwards as it
+/// The value of a query in an environment, as μXQ gives it. The environment is afterwards as it
 /// was, also where memory is wanting.
+///
+/// Beside the nodes of the value itself, trees are copied only where a variable is bound: a `For`
+/// copies the trees that it goes over, and then each once more as it is bound. So a `For` over n
+/// trees takes n evaluations of its second query, and time in step with the nodes of these trees.
+/// The recursion goes as deep as the query, however deep the forests are.
 #[cycle(eval)]
 pub fn eval(alloc: Global, query: &Query, env: &mut Env) -> Result<Forest, AllocError>
     requires { IsSome (value env.old (query_of query.now)) }
@@ -46,26 +53,29 @@ fn push_value(
             let atom = flux_atom::copy(alloc, atom)?;
             values.push_atom(atom)
         }
-        Query::Var(x, _) => values.append(alloc, of_var(env, *x)),
-        Query::Child(x, _) => values.append(alloc, of_child(env, *x)),
+        Query::Var(x, _) => values.append(alloc, bound(env, *x)),
+        Query::Child(x, _) => values.append(alloc, inside(env, *x)),
         Query::Let(x, bound, body, _) => {
-            let bound = eval(alloc, bound.get(), env)?;
-            push_under(alloc, body.get(), *x, bound, env, values)
+            let forest = eval(alloc, bound.get(), env)?;
+            push_under(alloc, body.get(), *x, forest, env, values)
         }
         Query::If(condition, yes, no, _) => {
-            let condition = eval(alloc, condition.get(), env)?;
-            if truth(condition.view()) {
+            let condition = read(alloc, condition.get(), env)?;
+            if truth(condition.view(env)) {
                 push_value(alloc, yes.get(), env, values)
             } else {
                 push_value(alloc, no.get(), env, values)
             }
         }
         Query::Same(left, right, _) => {
-            let left = eval(alloc, left.get(), env)?;
-            let right = eval(alloc, right.get(), env)?;
-            push_same(left.view(), right.view(), values)
+            let left = read(alloc, left.get(), env)?;
+            let right = read(alloc, right.get(), env)?;
+            push_same(left.view(env), right.view(env), values)
         }
-        Query::Filter(from, test, _) => push_filtered(alloc, from.get(), test, env, values),
+        Query::Filter(from, test, _) => {
+            let from = read(alloc, from.get(), env)?;
+            push_passing(alloc, test, from.view(env), values)
+        }
         Query::For(x, over, body, _) => {
             let over = eval(alloc, over.get(), env)?;
             push_each(alloc, body.get(), *x, over.view(), env, values)
@@ -152,53 +162,17 @@ fn push_each(
     Ok(())
 }
 
-// Adds the trees of a query's value that pass a test.
+// The value of a query, copied only where it does not stand in what is bound.
 #[cycle(eval)]
-fn push_filtered(
-    alloc: Global,
-    from: &Query,
-    test: &Test,
-    env: &mut Env,
-    values: &mut Forest,
-) -> Result<(), AllocError>
-    requires { IsSome (value env.old (query_of from.now)) }
-    ensures value { OnOk result (added values.old (kept test.now (value env.old (query_of from.now))) ≡ Some values.new) }
+fn read(alloc: Global, query: &Query, env: &mut Env) -> Result<Value, AllocError>
+    requires { IsSome (value env.old (query_of query.now)) }
+    ensures value { IfOk result (λ read. trees_of env.old read ≡ value env.old (query_of query.now)) }
+    ensures whole { IfOk result (λ read. IsWholeValue read) }
     ensures unchanged { env.new ≡ env.old }
 {
-    if let Some(view) = held(from, env) {
-        return push_passing(alloc, test, view, values);
-    }
-    let from = eval(alloc, from, env)?;
-    push_passing(alloc, test, from.view(), values)
-}
-
-// What is bound to the variable.
-fn of_var(env: &Env, x: Var) -> View<'_>
-    requires { IsSome (found env.now x) }
-    ensures { found env.now x ≡ Some (forest_of result) }
-{
-    match env.get(x) {
-        Some(view) => view,
-        None => unreachable!(),
-    }
-}
-
-// What the one tree contains that is bound to the variable.
-fn of_child(env: &Env, x: Var) -> View<'_>
-    requires { IsSome (and_value (found env.now x) content_of_one) }
-    ensures { and_value (found env.now x) content_of_one ≡ Some (forest_of result) }
-{
-    content(of_var(env, x))
-}
-
-// The value of a query where it stands in what is bound, which saves a copy.
-fn held<'e>(query: &Query, env: &'e Env) -> Option<View<'e>>
-    requires { IsSome (value env.now (query_of query.now)) }
-    ensures { IfSome result (λ view. value env.now (query_of query.now) ≡ Some (forest_of view)) }
-{
     match query {
-        Query::Var(x, _) => Some(of_var(env, *x)),
-        Query::Child(x, _) => Some(of_child(env, *x)),
-        _ => None,
+        Query::Var(x, _) => Ok(Value::Bound(*x)),
+        Query::Child(x, _) => Ok(Value::Inside(*x)),
+        _ => Ok(Value::Own(eval(alloc, query, env)?)),
     }
 }

@@ -6,6 +6,7 @@ mod env;
 mod evaluate;
 mod query;
 mod trees;
+mod value;
 
 pub use env::Env;
 pub use evaluate::eval;
