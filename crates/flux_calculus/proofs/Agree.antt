@@ -1,7 +1,8 @@
 -- The rules and the function agree.
 use Rattle.std.proofs.Common.{◌≡◌, ◌↔◌, ◌∙◌, refl, sym, ap, subst, ℕ, Bool, true, false, List, [], ◌∷◌, if◌then◌else◌}
 use Rattle.flux_trees.specs.Hedge.{Plain, nil, elem, leaf, join, trees}
-use Rattle.flux_calculus.specs.Core.{Test, Core, delete, test, children, iter, Context, is_tree, matches}
+use Rattle.flux_calculus.specs.declared.ask.Test.{Test}
+use Rattle.flux_calculus.specs.Core.{Core, delete, test, children, iter, Context, is_tree, matches}
 use Rattle.flux_calculus.specs.Derives.{Derives, DerivesEach, deletes, tests, passes, enters, iterates, each_end, each_more}
 use Rattle.flux_calculus.specs.Outcome.{Outcome, Gives, Stuck, and_then, on_match, on_content, on_each, outcome}
 

@@ -1,10 +1,9 @@
 -- The statements of the core language, what they may ask of a tree, and what they are carried out in.
 use Rattle.std.specs.Prelude.{ℕ, Bool, true, false, ◌==◌}
+use Rattle.flux_atom.specs.declared.atom.Atom.TheVariants.{Bool as Truth, Text}
+use Rattle.flux_calculus.specs.declared.ask.Test.{Test}
+use Rattle.flux_calculus.specs.declared.ask.Test.TheVariants.{Label, AnyElement, OfText, OfBool}
 use Rattle.flux_trees.specs.Hedge.{Plain, nil, elem, leaf}
-
--- what may be asked of a tree: that it is an element with this label
-pub data Test : Type 0 where
-  label : ℕ → Test
 
 -- a statement updates the forest that it is given: all of it is deleted, a statement is carried out
 -- where the one tree passes a test, on the content of the one element, or on each tree by itself
@@ -28,7 +27,10 @@ is_tree (elem _ a c nil) = true
 is_tree (leaf _ x nil) = true
 is_tree _ = false
 
--- the first tree passes the test
+-- the first tree passes the test: it is an element of the label, any element, a text, a truth value
 abbrev pub matches : Test → Plain → Bool
-matches (label n) (elem _ a c r) = a == n
-matches (label n) _ = false
+matches (Label n) (elem _ a c r) = a == n
+matches AnyElement (elem _ a c r) = true
+matches OfText (leaf _ (Text w) r) = true
+matches OfBool (leaf _ (Truth b) r) = true
+matches _ _ = false

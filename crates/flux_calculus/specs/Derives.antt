@@ -1,7 +1,8 @@
 -- The judgement: what a statement makes of a forest, a rule for each case.
 use Rattle.std.specs.Prelude.{◌≡◌, ℕ, true, false, List, [], ◌∷◌}
 use Rattle.flux_trees.specs.Hedge.{Plain, nil, elem, join, trees}
-use Rattle.flux_calculus.specs.Core.{Test, Core, delete, test, children, iter, Context, is_tree, matches}
+use Rattle.flux_calculus.specs.declared.ask.Test.{Test}
+use Rattle.flux_calculus.specs.Core.{Core, delete, test, children, iter, Context, is_tree, matches}
 
 mutual
   -- Derives γ v s w: in the context γ, the statement s makes w of v

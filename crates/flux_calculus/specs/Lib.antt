@@ -5,3 +5,5 @@ pub mod Derives
 pub mod Outcome
 pub mod Paths
 pub mod Laws
+pub mod Query
+pub mod Typing

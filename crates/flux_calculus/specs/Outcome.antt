@@ -1,7 +1,8 @@
 -- What a statement does, as a function.
 use Rattle.std.specs.Prelude.{List, [], ◌∷◌, if◌then◌else◌}
 use Rattle.flux_trees.specs.Hedge.{Plain, nil, elem, join, trees}
-use Rattle.flux_calculus.specs.Core.{Test, Core, delete, test, children, iter, Context, is_tree, matches}
+use Rattle.flux_calculus.specs.declared.ask.Test.{Test}
+use Rattle.flux_calculus.specs.Core.{Core, delete, test, children, iter, Context, is_tree, matches}
 
 -- a forest, or none: the statement does not fit what it is given
 pub data Outcome : Type 0 where

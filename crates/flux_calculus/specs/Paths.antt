@@ -1,10 +1,11 @@
 -- Statements on the elements that a path of labels leads to.
 use Rattle.std.specs.Prelude.{ℕ, List, [], ◌∷◌}
-use Rattle.flux_calculus.specs.Core.{Core, label, delete, test, children, iter}
+use Rattle.flux_calculus.specs.declared.ask.Test.TheVariants.{Label}
+use Rattle.flux_calculus.specs.Core.{Core, delete, test, children, iter}
 
 -- on each tree with this label
 abbrev pub on_step : ℕ → Core → Core
-on_step n s = iter (test (label n) s)
+on_step n s = iter (test (Label n) s)
 
 -- on each element whose label is the last of the path, at each level inside one with the label before it
 abbrev pub on_path : List ℕ → Core → Core

@@ -7,7 +7,8 @@ use Rattle.flux_atom.specs.declared.atom.Atom.{Atom}
 use Rattle.flux_trees.specs.Hedge.{Plain, nil, elem, leaf, join, size, first, others, trees}
 use Rattle.flux_trees.specs.Draft.{Draft, done, depth, add, begin, end}
 use Rattle.flux_trees.proofs.DraftLaws.{depth-add, depth-begin, depth-end, end-begin, add-add, add-nil}
-use Rattle.flux_calculus.specs.Core.{Context, Core, label, delete, test, children}
+use Rattle.flux_calculus.specs.declared.ask.Test.TheVariants.{Label}
+use Rattle.flux_calculus.specs.Core.{Context, Core, delete, test, children}
 use Rattle.flux_calculus.specs.Derives.{Derives, DerivesEach, deletes, tests, passes, enters, iterates, each_end, each_more}
 use Rattle.flux_calculus.specs.Paths.{delete_on}
 
@@ -27,19 +28,19 @@ pruned path (leaf _ x r) = leaf tt x (pruned path r)
 
 module _ (γ : Context) where
   -- an element, by a statement that is carried out where its label is n
-  element_derives : (n a : ℕ) (c w : Plain) (s : Core) → (a ≡ n → Derives γ (elem tt a c nil) s w) → Derives γ (elem tt a c nil) (test (label n) s) (if a == n then w else elem tt a c nil)
+  element_derives : (n a : ℕ) (c w : Plain) (s : Core) → (a ≡ n → Derives γ (elem tt a c nil) s w) → Derives γ (elem tt a c nil) (test (Label n) s) (if a == n then w else elem tt a c nil)
   element_derives n a c w s d = by (a == n) refl
     where
-      by : (b : Bool) → (a == n) ≡ b → Derives γ (elem tt a c nil) (test (label n) s) (if b then w else elem tt a c nil)
+      by : (b : Bool) → (a == n) ≡ b → Derives γ (elem tt a c nil) (test (Label n) s) (if b then w else elem tt a c nil)
       by true e = tests refl e (d (grind (arith, nat_tests)))
       by false e = passes refl e
 
-  last_derives : (n : ℕ) (v : Plain) → DerivesEach γ (trees v) (test (label n) delete) (pruned (n ∷ []) v)
+  last_derives : (n : ℕ) (v : Plain) → DerivesEach γ (trees v) (test (Label n) delete) (pruned (n ∷ []) v)
   last_derives n nil = each_end
   last_derives n (elem _ a c r) = each_more (element_derives n a c nil delete (λ e. deletes)) (last_derives n r) refl
   last_derives n (leaf _ x r) = each_more (passes refl refl) (last_derives n r) refl
 
-  step_derives : (n m : ℕ) (path : List ℕ) → ((c : Plain) → Derives γ c (delete_on (m ∷ path)) (pruned (m ∷ path) c)) → (v : Plain) → DerivesEach γ (trees v) (test (label n) (children (delete_on (m ∷ path)))) (pruned (n ∷ m ∷ path) v)
+  step_derives : (n m : ℕ) (path : List ℕ) → ((c : Plain) → Derives γ c (delete_on (m ∷ path)) (pruned (m ∷ path) c)) → (v : Plain) → DerivesEach γ (trees v) (test (Label n) (children (delete_on (m ∷ path)))) (pruned (n ∷ m ∷ path) v)
   step_derives n m path ih nil = each_end
   step_derives n m path ih (elem _ a c r) =
       each_more (element_derives n a c (elem tt a (pruned (m ∷ path) c) nil) (children (delete_on (m ∷ path))) (λ e. enters (ih c))) (step_derives n m path ih r) refl
