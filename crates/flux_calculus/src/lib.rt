@@ -5,6 +5,7 @@
 mod ask;
 
 ghost use Rattle.flux_calculus.specs.Laws.{DerivationIsComputed, DerivationIsUnique};
+ghost use Rattle.flux_calculus.specs.Typing.{TypedQueriesHaveValues, TypingIsUnique};
 
 pub use ask::{Test, Var};
 
@@ -17,4 +18,16 @@ pub fn derivation_is_computed()
 /// A statement makes at most one forest of another. It does nothing: its contract is the law.
 pub fn derivation_is_unique()
     ensures { DerivationIsUnique }
+{}
+
+/// Where each variable is bound to a member of its type, a query of a type has a value, and the
+/// value is a member of the type. It does nothing: its contract is the law.
+pub fn typed_queries_have_values()
+    ensures { TypedQueriesHaveValues }
+{}
+
+/// A query is typed with at most one outcome: a type, or a fault at a place. It does nothing: its
+/// contract is the law.
+pub fn query_typing_is_unique()
+    ensures { TypingIsUnique }
 {}
