@@ -6,8 +6,9 @@ mod ask;
 
 ghost use Rattle.flux_calculus.specs.Laws.{DerivationIsComputed, DerivationIsUnique};
 ghost use Rattle.flux_calculus.specs.Typing.{TypedQueriesHaveValues, TypingIsUnique};
+ghost use Rattle.flux_trees.specs.Same.{SameComputes};
 
-pub use ask::{Test, Var};
+pub use ask::{Span, Test, Var};
 
 /// A statement makes a forest of another by the rules exactly where the function that carries
 /// statements out gives it. It does nothing: its contract is the law.
@@ -30,4 +31,10 @@ pub fn typed_queries_have_values()
 /// contract is the law.
 pub fn query_typing_is_unique()
     ensures { TypingIsUnique }
+{}
+
+/// The test of two forests that the value of a query names is true exactly where they are equal. It
+/// does nothing: its contract is the law.
+pub fn equality_computes()
+    ensures { SameComputes }
 {}

@@ -1,5 +1,5 @@
 // The nodes of a forest that is laid out in document order.
-ghost use Rattle.std.specs.Prelude.{◌≡◌, ◌++◌, length, take, IfOk, OnOk, OnErr};
+ghost use Rattle.std.specs.Prelude.{◌≡◌, ◌↔◌, ◌++◌, length, take, IsTrue, IfOk, OnOk, OnErr};
 
 use flux_atom::{Atom, Name};
 use std::alloc::{AllocError, Global};
@@ -11,6 +11,28 @@ pub(crate) enum Item {
     Leaf(Atom),
 }
 
+impl Item {
+    fn is_same(&self, other: &Item) -> bool
+        ensures { IsTrue result ↔ (self.now ≡ other.now) }
+    {
+        match (self, other) {
+            (Item::Element(name), Item::Element(other)) => name == other,
+            (Item::Leaf(atom), Item::Leaf(other)) => is_same_atom(atom, other),
+            _ => false,
+        }
+    }
+}
+
+fn is_same_atom(atom: &Atom, other: &Atom) -> bool
+    ensures { IsTrue result ↔ (atom.now ≡ other.now) }
+{
+    match (atom, other) {
+        (Atom::Bool(truth), Atom::Bool(other)) => truth == other,
+        (Atom::Text(word), Atom::Text(other)) => word.as_str() == other.as_str(),
+        _ => false,
+    }
+}
+
 // A node, and how many nodes its tree has, itself among them: none while it is begun.
 #[derive(Drop)]
 pub(crate) struct Node {
@@ -19,6 +41,12 @@ pub(crate) struct Node {
 }
 
 impl Node {
+    fn is_same(&self, other: &Node) -> bool
+        ensures { IsTrue result ↔ (self.now ≡ other.now) }
+    {
+        self.size == other.size && self.item.is_same(&other.item)
+    }
+
     fn copy(&self, alloc: Global) -> Result<Node, AllocError>
         ensures { IfOk result (λ copied. copied ≡ self.now) }
     {
@@ -31,6 +59,20 @@ impl Node {
             size: self.size,
         })
     }
+}
+
+pub(crate) fn are_same(nodes: &[Node], others: &[Node]) -> bool
+    ensures { IsTrue result ↔ (nodes.now ≡ others.now) }
+{
+    if nodes.len() != others.len() {
+        return false;
+    }
+    for (node, other) in nodes.iter().zip(others) {
+        if !node.is_same(other) {
+            return false;
+        }
+    }
+    true
 }
 
 // On want of memory some copies may stand behind the nodes that were there.

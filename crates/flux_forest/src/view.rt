@@ -1,9 +1,11 @@
 // Views of runs of the trees of a forest.
-ghost use Rattle.std.specs.Prelude.{◌≡◌, ◌≢◌, ◌↔◌, IsTrue};
+ghost use Rattle.std.specs.Prelude.{◌≡◌, ◌≢◌, ◌↔◌, IsTrue, IfOk};
 ghost use Rattle.flux_forest.specs.Flat.{IsFlat};
 
-use crate::node::{Item, Node};
+use crate::forest::Forest;
+use crate::node::{Item, Node, are_same};
 use flux_atom::{Atom, Name};
+use std::alloc::{AllocError, Global};
 use std::marker::Model;
 
 /// A run of sibling trees of a forest.
@@ -33,6 +35,7 @@ pub enum First<'a> {
 
 impl<'a> View<'a> {
     ghost use Rattle.flux_trees.specs.Hedge.{nil, size, first, others, content, opened, IsElement};
+    ghost use Rattle.flux_trees.specs.Draft.{done};
     ghost use Rattle.flux_forest.specs.View.{forest_of};
     ghost use Rattle.flux_forest.specs.Heads.{IsHead, IsFirst};
 
@@ -117,6 +120,30 @@ impl<'a> View<'a> {
         ensures { result ≡ forest_of self.entry }
     {
         Trees { rest: self }
+    }
+
+    /// Whether both runs have the same trees in the same order. It takes as many steps as there
+    /// are nodes, and the bytes of their texts.
+    pub fn equal(self, other: View<'_>) -> bool
+        ensures { IsTrue result ↔ (forest_of self.entry ≡ forest_of other.entry) }
+    {
+        are_same(self.nodes, other.nodes)
+    }
+
+    /// How many nodes there are, at any depth.
+    pub fn count(self) -> u64
+        ensures { result ≡ size (forest_of self.entry) }
+    {
+        self.nodes.len() as u64
+    }
+
+    /// A forest of these trees alone.
+    pub fn copy(self, alloc: Global) -> Result<Forest, AllocError>
+        ensures { IfOk result (λ copied. copied ≡ done (forest_of self.entry)) }
+    {
+        let mut forest = Forest::new(alloc);
+        forest.append(alloc, self)?;
+        Ok(forest)
     }
 }
 
