@@ -3,6 +3,7 @@
 #![tactic(auto)]
 
 mod filter;
+mod leaf;
 mod measured;
 mod parts;
 
