@@ -1,2 +1,4 @@
 pub mod Agree
 pub mod EachLaws
+pub mod OneType
+pub mod Sound

@@ -1,6 +1,7 @@
 //! Types of forests: regular expressions with named definitions.
 #![tactic(auto)]
 
+mod decider;
 mod defs;
 mod draft;
 mod search;
@@ -8,6 +9,7 @@ mod text;
 mod tidied;
 mod ty;
 
+pub use decider::{Decider, Verdict};
 pub use defs::{Defs, membership_computes, single};
 pub use draft::{DefFault, Draft};
 pub use text::write_type;

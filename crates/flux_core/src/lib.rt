@@ -1,0 +1,8 @@
+//! What the typing of the core language names: variables with their types, and what can be wrong.
+#![tactic(auto)]
+
+mod fault;
+mod gamma;
+
+pub use fault::KindFault;
+pub use gamma::{Gamma, Param};

@@ -1,0 +1,9 @@
+//! The types of queries, after μXQ (Colazzo, Ghelli, Manghi, Sartiani): the type of a query, or the
+//! first fault.
+#![tactic(auto)]
+
+mod filter;
+mod leaf;
+mod measured;
+mod parts;
+

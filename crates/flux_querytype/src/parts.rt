@@ -1,0 +1,102 @@
+// Types that are concluded of others. Each is tested, and refused at a place where it is over the
+// limits.
+ghost use Rattle.std.specs.Prelude.{◌≡◌};
+ghost use Rattle.flux_schema.specs.Ty.{empty, atom, element, seq, alt, star};
+ghost use Rattle.flux_types.specs.Read.{ty_of};
+ghost use Rattle.flux_querytype.specs.Answers.{IsConclusion};
+
+use crate::measured::Measured;
+use flux_atom::{AtomKind, Boxed, Name};
+use flux_core::KindFault;
+use flux_types::Ty;
+use std::alloc::Global;
+
+const MOST_NODES: u32 = 65536;
+const MOST_LEVELS: u32 = 500;
+
+pub(crate) fn nothing() -> Measured
+    ensures { ty_of result.ty ≡ empty }
+{
+    Measured {
+        ty: Ty::Empty,
+        nodes: 1,
+        levels: 1,
+    }
+}
+
+pub(crate) fn one_atom(kind: AtomKind) -> Measured
+    ensures { ty_of result.ty ≡ atom kind }
+{
+    Measured {
+        ty: Ty::Atom(kind),
+        nodes: 1,
+        levels: 1,
+    }
+}
+
+pub(crate) fn one_element(
+    alloc: Global,
+    place: u32,
+    label: Name,
+    content: Measured,
+) -> Result<Measured, KindFault>
+    ensures { IsConclusion place (element label (ty_of content.ty)) result }
+{
+    let nodes = content.nodes + 1;
+    let levels = content.levels + 1;
+    if nodes > MOST_NODES || levels > MOST_LEVELS {
+        return Err(KindFault::TypeTooLarge { place });
+    }
+    let ty = Ty::Elem(label, Boxed::new(alloc, content.ty)?);
+    Ok(Measured { ty, nodes, levels })
+}
+
+pub(crate) fn in_sequence(
+    alloc: Global,
+    place: u32,
+    left: Measured,
+    right: Measured,
+) -> Result<Measured, KindFault>
+    ensures { IsConclusion place (seq (ty_of left.ty) (ty_of right.ty)) result }
+{
+    let nodes = left.nodes + right.nodes + 1;
+    let levels = left.levels.max(right.levels) + 1;
+    if nodes > MOST_NODES || levels > MOST_LEVELS {
+        return Err(KindFault::TypeTooLarge { place });
+    }
+    let ty = Ty::Seq(Boxed::new(alloc, left.ty)?, Boxed::new(alloc, right.ty)?);
+    Ok(Measured { ty, nodes, levels })
+}
+
+pub(crate) fn either(
+    alloc: Global,
+    place: u32,
+    left: Measured,
+    right: Measured,
+) -> Result<Measured, KindFault>
+    ensures { IsConclusion place (alt (ty_of left.ty) (ty_of right.ty)) result }
+{
+    let nodes = left.nodes + right.nodes + 1;
+    let levels = left.levels.max(right.levels) + 1;
+    if nodes > MOST_NODES || levels > MOST_LEVELS {
+        return Err(KindFault::TypeTooLarge { place });
+    }
+    let ty = Ty::Alt(Boxed::new(alloc, left.ty)?, Boxed::new(alloc, right.ty)?);
+    Ok(Measured { ty, nodes, levels })
+}
+
+pub(crate) fn repeated(
+    alloc: Global,
+    place: u32,
+    inner: Measured,
+) -> Result<Measured, KindFault>
+    ensures { IsConclusion place (star (ty_of inner.ty)) result }
+{
+    let nodes = inner.nodes + 1;
+    let levels = inner.levels + 1;
+    if nodes > MOST_NODES || levels > MOST_LEVELS {
+        return Err(KindFault::TypeTooLarge { place });
+    }
+    let ty = Ty::Star(Boxed::new(alloc, inner.ty)?);
+    Ok(Measured { ty, nodes, levels })
+}

@@ -1,0 +1,26 @@
+-- What a verdict on the inclusion of types says.
+use Rattle.std.specs.Prelude.{◌≡◌}
+use Rattle.flux_trees.specs.Hedge.{Plain}
+use Rattle.flux_trees.specs.Draft.{Draft, done}
+use Rattle.flux_schema.specs.Ty.{Ty}
+use Rattle.flux_schema.specs.Definitions.{Definitions}
+use Rattle.flux_schema.specs.Member.{Member, Included}
+use Rattle.flux_types.specs.declared.decider.Verdict.{Verdict}
+use Rattle.flux_types.specs.declared.decider.Verdict.TheVariants.{Yes, No}
+
+-- a type and one that it may be included in
+abbrev pub TypePair : Type 0
+TypePair = Ty × Ty
+
+-- a whole forest that is a member of the first type and not of the second
+abbrev pub IsEvidence : Definitions → Ty → Ty → Draft (Unit {0}) → Type 0
+IsEvidence defs t u f = (v : Plain) × (f ≡ done v) × Member defs v t × ¬ (Member defs v u)
+
+-- inclusion, or a forest against it
+abbrev pub IsVerdict : Definitions → Ty → Ty → Verdict → Type 0
+IsVerdict defs t u Yes = Included defs t u
+IsVerdict defs t u (No f) = IsEvidence defs t u f
+
+abbrev pub IsYes : Verdict → Type 0
+IsYes Yes = Unit {0}
+IsYes (No f) = ⊥
