@@ -9,3 +9,4 @@ pub mod Closing
 pub mod Making
 pub mod Meaning
 pub mod Adding
+pub mod Folding

@@ -4,3 +4,4 @@ pub mod Standing
 pub mod Built
 pub mod Marking
 pub mod Shown
+pub mod Folding

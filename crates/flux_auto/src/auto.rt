@@ -2,12 +2,16 @@
 ghost use Rattle.std.specs.Prelude.{◌≡◌, ◌↔◌, ◌<◌, ◌++◌, ◌∷◌, [], ℕ, Some, IsTrue, length, slice_get, IfOk, OnOk, OnErr, IfSome};
 ghost use Rattle.std.specs.Option.{option_map};
 ghost use Rattle.flux_schema.specs.Definitions.{IsKnown};
+ghost use Rattle.flux_schema.specs.Member.{Member};
+ghost use Rattle.flux_forest.specs.View.{forest_of};
 ghost use Rattle.flux_types.specs.Read.{ty_of};
 
 use crate::Edge;
 use crate::make::{begin, extend_or_stay};
 use crate::names::empty_names;
+use crate::run::{set_of, takes};
 use crate::table::Table;
+use flux_forest::View;
 use flux_types::{Defs, Ty, copy_of};
 use std::alloc::{AllocError, Global};
 use std::marker::Model;
@@ -101,6 +105,18 @@ impl Auto {
             unreachable!()
         }
         Ok(start)
+    }
+
+    /// Whether a forest is a member of a type that was added. It takes time in step with the nodes
+    /// of the forest and the edges of the automaton, and no more memory than the states take for
+    /// each element that is open at once. It doesn't recurse.
+    pub fn member(&self, start: Start, view: View<'_>) -> Result<bool, AllocError>
+        requires { start < length self.now.types }
+        ensures { IfOk result (λ found. IfSome (slice_get self.now.types start) (λ t. IsTrue found ↔ Member self.now.definitions (forest_of view.entry) t)) }
+    {
+        let alloc = *self.added.allocator();
+        let set = set_of(alloc, self.table.rows.as_slice(), view)?;
+        Ok(takes(&set, self.added[start.0].state))
     }
 
     /// How many states there are: they are the numbers below it.

@@ -8,6 +8,7 @@ mod edge;
 mod linear;
 mod make;
 mod names;
+mod run;
 mod table;
 
 pub use auto::{Auto, Start};
