@@ -4,7 +4,7 @@ ghost use Rattle.flux_atom.specs.Names.{name_text, IsName, IsTable};
 ghost use Rattle.flux_atom.specs.TextSteps.{no_text, read_text, text_step};
 ghost use Rattle.flux_trees.specs.Draft.{Draft, depth};
 ghost use Rattle.flux_doctext.specs.Reading.{behind_step, close_step, closed_step, content_step, end_named, end_step, label_step, name_step, named_step, opened_step, sign_of, step, string_step, tree_step, truth_of};
-ghost use Rattle.flux_doctext.specs.Steps.{shape_of, Ends, Follows, HasGrown, IsSound};
+ghost use Rattle.flux_doctext.specs.Steps.{shape_of, Ends, Follows, HasGrown, IsSound, Passes};
 
 use crate::sign::Sign;
 use flux_atom::{Atom, Name, Names, Taken, TextReader};
@@ -228,6 +228,17 @@ fn end_element(forest: &mut Forest) -> Option<State>
     }
     forest.end_element();
     Some(State::Behind)
+}
+
+// In a string, the bytes in front that stand for themselves: it goes on behind them. Returns how
+// many they are.
+pub(crate) fn pass_plain(state: &mut State, bytes: &[u8]) -> Result<usize, AllocError>
+    ensures { IfOk result (λ count. Passes state.old bytes.now count state.new) }
+{
+    match state {
+        State::Text(text) => text.take_plain(bytes),
+        _ => Ok(0),
+    }
 }
 
 // Whether the text may end here, where the last atom may end too.
