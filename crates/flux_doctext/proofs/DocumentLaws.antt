@@ -1,5 +1,5 @@
 -- What a reader has read, from the beginning of the text to its end.
-use Rattle.std.proofs.Common.{◌≡◌, ℕ, zero, suc, ◌+◌, ◌-◌, ◌<◌, ◌≤◌, Bool, true, false, List, [], ◌∷◌, ◌++◌, length, take, drop, get_or, Option, Some, None, refl, sym, ap, subst, ◌∙◌, append_assoc, arith}
+use Rattle.std.proofs.Common.{◌≡◌, ℕ, ◌+◌, ◌-◌, ◌<◌, ◌≤◌, false, List, [], ◌∷◌, ◌++◌, length, take, drop, get_or, Option, Some, None, refl, sym, ap, subst, ◌∙◌, append_assoc, arith}
 use Rattle.std.proofs.lemmas.Bool.{false≢true}
 use Rattle.std.proofs.Math.Seq.{take-add}
 use Rattle.std.proofs.lemmas.List.{append-nil, take-append-drop, take-take, take_more, take_all, length-drop}
@@ -13,9 +13,9 @@ use Rattle.flux_trees.proofs.DraftLaws.{depth-add}
 use Rattle.flux_doctext.specs.declared.reader.State.{State}
 use Rattle.flux_doctext.specs.declared.reader.State.TheVariants.{Content, Tree, Name, Label, Opened, Closed, Text, Behind}
 use Rattle.flux_doctext.specs.Spells.{Spelled, whole, some, Spells, IsViable}
-use Rattle.flux_doctext.specs.Labels.{labels, learnt}
+use Rattle.flux_doctext.specs.Labels.{learnt}
 use Rattle.flux_doctext.specs.Documents.{IsDocument, IsNoDocument}
-use Rattle.flux_doctext.specs.Reading.{Shape, content, next, name, label, opened, closed, string, behind, Event, push, Step, truth_of, step, string_step, end_named, end_step, PlainDraft, draft_after, names_after, depth_after, and_fits, end_fits, fits}
+use Rattle.flux_doctext.specs.Reading.{Shape, content, next, name, label, opened, closed, string, behind, Event, push, truth_of, step, string_step, end_named, end_step, PlainDraft, draft_after, names_after, and_fits, end_fits, fits}
 use Rattle.flux_doctext.specs.Steps.{shape_of, IsSound, IsTaken, IsEnded, Passes}
 use Rattle.flux_doctext.proofs.ReadLaws.{spelled_fits, depth-draft_after}
 use Rattle.flux_doctext.proofs.SpelledLaws.{no_space}
@@ -154,11 +154,15 @@ document_read : (old names : List (List ℕ)) (s : Shape) (bytes : List ℕ) (d 
 document_read old names s bytes d new es r e shut draws = by (ended names s bytes d es r.is_read e shut)
   where
     by : IsWhole names bytes (draft_after names es d) → (v : Plain) × (new ≡ done v) × IsDocument old names bytes v
-    by i = (i.forest, draws ∙ i.is_done, record {
-      spells = record { table = r.table; forest = i.spelled };
-      over = record { table = r.table; labels = spelled_labels i.spelled; atoms = spelled_atoms i.spelled };
-      learns = learnt_end old names s d es r.learns e ∙ ap (λ f. learnt old (draft_labels names f)) i.is_done;
-    })
+    by i = (
+      i.forest,
+      draws ∙ i.is_done,
+      record {
+        spells = record { table = r.table; forest = i.spelled };
+        over = record { table = r.table; labels = spelled_labels i.spelled; atoms = spelled_atoms i.spelled };
+        learns = learnt_end old names s d es r.learns e ∙ ap (λ f. learnt old (draft_labels names f)) i.is_done;
+      },
+    )
 
 -- the reader is at a place of the whole text
 pub record HasPassed (old names : List (List ℕ)) (bytes : List ℕ) (i : ℕ) (d : PlainDraft) (state : State) : Type 0 where

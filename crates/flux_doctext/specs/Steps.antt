@@ -1,5 +1,5 @@
 -- What the states of the reader stand for, and what its steps do.
-use Rattle.std.specs.Prelude.{◌≡◌, ℕ, ◌+◌, ◌<◌, ◌≤◌, Bool, true, false, List, [], ◌++◌, length, take, Option, Some, None, string_bytes}
+use Rattle.std.specs.Prelude.{◌≡◌, ℕ, ◌+◌, ◌<◌, ◌≤◌, Bool, true, false, List, ◌++◌, length, take, Option, Some, None, string_bytes}
 use Rattle.flux_atom.specs.Names.{name_text, IsName, IsTable}
 use Rattle.flux_atom.specs.TextSteps.{TextRead, no_text, read_text}
 use Rattle.flux_trees.specs.Draft.{depth}

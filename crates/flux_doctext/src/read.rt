@@ -31,11 +31,7 @@ impl From<AllocError> for DocFault {
 
 /// The forest that the bytes spell. The table learns the labels in the order of the text; of a
 /// text that is refused it may hold some, behind the names that it held.
-pub fn read_document(
-    alloc: Global,
-    bytes: &[u8],
-    names: &mut Names,
-) -> Result<Forest, DocFault>
+pub fn read_document(alloc: Global, bytes: &[u8], names: &mut Names) -> Result<Forest, DocFault>
     requires { length names.old + length bytes.now < 2 ^ 32 - 1 }
     ensures ok { IfOk result (λ forest. (v : Plain) × (forest ≡ done v) × IsDocument names.old names.new bytes.now v) }
     ensures fault { IfErr result (IsDocFault bytes.now) }
@@ -51,7 +47,9 @@ pub fn read_document(
     let mut place = 0;
     'bytes: while place < bytes.len() {
         let Some(next) = step(alloc, state, bytes[place], names, &mut forest)? else {
-            return Err(DocFault::Text { place: place as u32 });
+            return Err(DocFault::Text {
+                place: place as u32,
+            });
         };
         state = next;
         place += 1;
@@ -60,7 +58,9 @@ pub fn read_document(
     if end(state, &mut forest)? {
         Ok(forest)
     } else {
-        Err(DocFault::Text { place: bytes.len() as u32 })
+        Err(DocFault::Text {
+            place: bytes.len() as u32,
+        })
     }
 }
 

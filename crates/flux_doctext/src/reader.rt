@@ -77,12 +77,7 @@ fn in_content(
 }
 
 // White space before a tree, or its first byte.
-fn at_tree(
-    alloc: Global,
-    state: State,
-    sign: Sign,
-    byte: u8,
-) -> Result<Option<State>, AllocError>
+fn at_tree(alloc: Global, state: State, sign: Sign, byte: u8) -> Result<Option<State>, AllocError>
     requires { sign ≡ sign_of byte }
     ensures { (names : List (List ℕ)) (d : Draft (Unit {0})) → IsSound names state → IfOk result (Follows names (tree_step (shape_of names state) byte sign) d names d) }
 {
@@ -153,11 +148,7 @@ fn behind_name(
     }
 }
 
-fn behind_label(
-    name: Name,
-    sign: Sign,
-    forest: &mut Forest,
-) -> Result<Option<State>, AllocError>
+fn behind_label(name: Name, sign: Sign, forest: &mut Forest) -> Result<Option<State>, AllocError>
     ensures { (names : List (List ℕ)) → IsTable names → name < length names → IfOk result (Follows names (label_step (name_text names name) sign) forest.old names forest.new) }
 {
     match sign {
@@ -190,11 +181,7 @@ fn behind_parentheses(sign: Sign, forest: &mut Forest) -> Option<State>
     }
 }
 
-fn in_text(
-    mut text: TextReader,
-    byte: u8,
-    forest: &mut Forest,
-) -> Result<Option<State>, AllocError>
+fn in_text(mut text: TextReader, byte: u8, forest: &mut Forest) -> Result<Option<State>, AllocError>
     requires { (items : List ℕ) × (read_text no_text items ≡ Some text) }
     ensures { (names : List (List ℕ)) → IfOk result (Follows names (string_step text (text_step text.0 byte)) forest.old names forest.new) }
 {
