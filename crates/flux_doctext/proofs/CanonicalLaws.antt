@@ -1,5 +1,5 @@
 -- The canonical text spells its forest, and no other.
-use Rattle.std.proofs.Common.{◌≡◌, ◌≢◌, ℕ, List, [], ◌∷◌, ◌++◌, slice_get, codes, IsSomeAnd, refl, sym, subst, ap, ◌∙◌, append_assoc}
+use Rattle.std.proofs.Common.{◌≡◌, ◌≢◌, ℕ, List, [], ◌++◌, codes, refl, sym, subst, append_assoc}
 use Rattle.std.proofs.lemmas.List.{append-nil}
 use Rattle.std.specs.List.{flat_map}
 use Rattle.flux_atom.specs.declared.atom.Atom.{Atom}
@@ -11,7 +11,7 @@ use Rattle.flux_atom.proofs.TextLaws.{canonical_items}
 use Rattle.flux_trees.specs.Hedge.{Plain, nil, elem, leaf, join}
 use Rattle.flux_trees.proofs.HedgeLaws.{join-nil}
 use Rattle.flux_trees.specs.Each.{EachLabel, EachAtom}
-use Rattle.flux_doctext.specs.Text.{comma, trees_text, text, NamesLabel, IsProper, IsForestOver}
+use Rattle.flux_doctext.specs.Text.{comma, trees_text, text, NamesLabel, IsProper}
 use Rattle.flux_doctext.specs.Spells.{Spells, Spelled, whole, inside, trees, tree, none, some, nothing, something, last, more, element, atom}
 use Rattle.flux_doctext.specs.Documents.{CanonicalTextSpells, SpelledForestIsUnique}
 use Rattle.flux_doctext.proofs.ReadLaws.{spelled_once}

@@ -1,23 +1,40 @@
 -- What a reader has read, from the beginning of the text to its end.
-use Rattle.std.proofs.Common.{◌≡◌, ℕ, zero, suc, ◌+◌, ◌<◌, ◌≤◌, Bool, true, false, List, [], ◌∷◌, ◌++◌, length, take, drop, get_or, Option, Some, None, refl, sym, ap, subst, ◌∙◌, append_assoc, arith}
+use Rattle.std.proofs.Common.{◌≡◌, ℕ, ◌+◌, ◌-◌, ◌<◌, ◌≤◌, false, List, [], ◌∷◌, ◌++◌, length, take, drop, get_or, Option, Some, None, refl, sym, ap, subst, ◌∙◌, append_assoc, arith}
 use Rattle.std.proofs.lemmas.Bool.{false≢true}
-use Rattle.std.proofs.lemmas.List.{append-nil, take-append-drop, take-take, take_more, take_all}
+use Rattle.std.proofs.Math.Seq.{take-add}
+use Rattle.std.proofs.lemmas.List.{append-nil, take-append-drop, take-take, take_more, take_all, length-drop}
 use Rattle.flux_atom.specs.declared.atom.Atom.{Atom}
 use Rattle.flux_atom.specs.Names.{IsTable}
+use Rattle.flux_atom.specs.TextSteps.{TextStep, on, closes, misfits, TextRead, text_step, no_text, read_on, and_read as and_text, read_text}
+use Rattle.flux_atom.proofs.TextLaws.{read_then}
 use Rattle.flux_trees.specs.Hedge.{Plain, nil, leaf}
 use Rattle.flux_trees.specs.Draft.{done, begun, depth, add}
 use Rattle.flux_trees.proofs.DraftLaws.{depth-add}
 use Rattle.flux_doctext.specs.declared.reader.State.{State}
+use Rattle.flux_doctext.specs.declared.reader.State.TheVariants.{Content, Tree, Name, Label, Opened, Closed, Text, Behind}
 use Rattle.flux_doctext.specs.Spells.{Spelled, whole, some, Spells, IsViable}
-use Rattle.flux_doctext.specs.Labels.{labels, learnt}
+use Rattle.flux_doctext.specs.Labels.{learnt}
 use Rattle.flux_doctext.specs.Documents.{IsDocument, IsNoDocument}
-use Rattle.flux_doctext.specs.Reading.{Shape, content, next, name, label, opened, closed, string, behind, Event, push, Step, truth_of, step, end_named, end_step, PlainDraft, draft_after, names_after, depth_after, and_fits, end_fits, fits}
-use Rattle.flux_doctext.specs.Steps.{shape_of, IsTaken, IsEnded}
+use Rattle.flux_doctext.specs.Reading.{Shape, content, next, name, label, opened, closed, string, behind, Event, push, truth_of, step, string_step, end_named, end_step, PlainDraft, draft_after, names_after, and_fits, end_fits, fits}
+use Rattle.flux_doctext.specs.Steps.{shape_of, IsSound, IsTaken, IsEnded, Passes}
 use Rattle.flux_doctext.proofs.ReadLaws.{spelled_fits, depth-draft_after}
 use Rattle.flux_doctext.proofs.SpelledLaws.{no_space}
-use Rattle.flux_doctext.proofs.StepLaws.{IsRead, IsKept, step_kept, named_behind}
+use Rattle.flux_doctext.proofs.StepLaws.{IsRead, IsKept, begun_more, step_kept, named_behind}
+use Rattle.flux_doctext.proofs.Written.{IsQuoted, Core}
+use Rattle.flux_doctext.proofs.WrittenLaws.{lifted}
 use Rattle.flux_doctext.proofs.ViableLaws.{read_viable}
 use Rattle.flux_doctext.proofs.LabelLaws.{HasLearnt, learnt_kept, learnt_end, draft_labels, spelled_labels, spelled_atoms}
+
+-- a run of a string fits where it leads
+fits_run : (r s : TextRead) (run rest : List ℕ) (n : ℕ) → read_text r run ≡ Some s → fits (string r) n (run ++ rest) ≡ fits (string s) n rest
+fits_run r s [] rest n e = let same : r ≡ s = cc in ap (λ q. fits (string q) n rest) same
+fits_run r s (b ∷ run) rest n e =
+    by (text_step r.0 b) e (λ q further. fits_run q s run rest n further)
+  where
+    by : (o : TextStep) → and_text (read_on o r.1) (λ q. read_text q run) ≡ Some s → ((q : TextRead) → read_text q run ≡ Some s → fits (string q) n (run ++ rest) ≡ fits (string s) n rest) → and_fits (string_step r o) n (λ u m. fits u m (run ++ rest)) ≡ fits (string s) n rest
+    by (on state added) e further = further (state, r.1 ++ added) e
+    by closes e further = absurd cc
+    by misfits e further = absurd cc
 
 -- the bytes are read, over a table that began as old: what fits behind them fits where the reader is
 pub record IsReader (old names : List (List ℕ)) (s : Shape) (bytes : List ℕ) (d : PlainDraft) : Type 0 where
@@ -26,7 +43,7 @@ pub record IsReader (old names : List (List ℕ)) (s : Shape) (bytes : List ℕ)
   pub fitted : (rest : List ℕ) → fits content 0 (bytes ++ rest) ≡ fits s (depth d) rest
   pub learns : HasLearnt old names s d
 
-pub reader_new : (names : List (List ℕ)) → IsTable names → IsReader names names content [] (done nil)
+reader_new : (names : List (List ℕ)) → IsTable names → IsReader names names content [] (done nil)
 reader_new names table = record {
   table = table;
   is_read = (no_space, refl);
@@ -56,6 +73,15 @@ reader_step old names new s b bytes d e state i table t = record {
         ∙ ap (λ o. and_fits o (depth d) (λ u m. fits u m rest)) t.fits
         ∙ ap (λ n. fits (shape_of new state) n rest) (sym (ap depth t.draws ∙ depth-draft_after new t.events d))
 
+-- a run of a string
+reader_passes : (old names : List (List ℕ)) (r s : TextRead) (run bytes : List ℕ) (d : PlainDraft) → IsReader old names (string r) bytes d → read_text r run ≡ Some s → IsReader old names (string s) (bytes ++ run) d
+reader_passes old names r s run bytes d i e = record {
+  table = i.table;
+  is_read = lifted names (Core names (string r)) (Core names (string s)) run (begun_more names (IsQuoted r) (IsQuoted s) run (λ t q. record { items = q.items ++ run; are = read_then no_text q.items run r q.are ∙ e; token_is = ap (λ l. l ++ run) q.token_is })) bytes d i.is_read;
+  fitted = λ rest. ap (fits content 0) (append_assoc bytes run rest) ∙ i.fitted (run ++ rest) ∙ fits_run r s run rest (depth d) e;
+  learns = i.learns;
+}
+
 -- the bytes in front of more, and those behind them
 front_of : (bytes : List ℕ) (i m : ℕ) → i < m → m ≤ length bytes → take m bytes ≡ take i bytes ++ (get_or bytes i 0 ∷ drop (i + 1) (take m bytes))
 front_of bytes i m below within =
@@ -64,8 +90,8 @@ front_of bytes i m below within =
     ∙ append_assoc (take i bytes) (get_or bytes i 0 ∷ []) (drop (i + 1) (take m bytes))
 
 -- a byte that fits nowhere
-pub misfit : (old names : List (List ℕ)) (s : Shape) (bytes : List ℕ) (i : ℕ) (d : PlainDraft) → IsReader old names s (take i bytes) d → i < length bytes → step s (depth d) (get_or bytes i 0) ≡ None → IsNoDocument bytes i
-misfit old names s bytes i d r below none = record {
+misfit_at : (old names : List (List ℕ)) (s : Shape) (bytes : List ℕ) (i : ℕ) (d : PlainDraft) → IsReader old names s (take i bytes) d → i < length bytes → step s (depth d) (get_or bytes i 0) ≡ None → IsNoDocument bytes i
+misfit_at old names s bytes i d r below none = record {
   spells_none = λ table v x. never table v (drop (i + 1) (take (length bytes) bytes)) (subst (λ l. Spells table l v) (sym (take_all (length bytes) bytes (omega arith)) ∙ front_of bytes i (length bytes) below (omega arith)) x);
   longest = record {
     within = omega arith;
@@ -96,54 +122,114 @@ pub record IsWhole (names : List (List ℕ)) (bytes : List ℕ) (d : PlainDraft)
   pub spelled : Spelled names whole bytes forest
 
 whole_behind : (names : List (List ℕ)) (bytes : List ℕ) (d : PlainDraft) → IsRead names behind bytes d → depth d ≡ 0 → IsWhole names bytes d
-whole_behind names bytes (done h) w closes = record { forest = h; is_done = refl; spelled = some w }
-whole_behind names bytes (begun b n a d) w closes = absurd (omega (arith, closes))
+whole_behind names bytes (done h) w shut = record { forest = h; is_done = refl; spelled = some w }
+whole_behind names bytes (begun b n a d) w shut = absurd (omega (arith, shut))
 
 whole_closed : (names : List (List ℕ)) (bytes : List ℕ) (d : PlainDraft) → IsRead names closed bytes d → depth d ≡ 0 → IsWhole names bytes d
-whole_closed names bytes (done h) w closes = record { forest = h; is_done = refl; spelled = subst (Spelled names whole bytes) (sym w.1) w.0 }
-whole_closed names bytes (begun b n a d) w closes = absurd (omega (arith, closes))
+whole_closed names bytes (done h) w shut = record { forest = h; is_done = refl; spelled = subst (Spelled names whole bytes) (sym w.1) w.0 }
+whole_closed names bytes (begun b n a d) w shut = absurd (omega (arith, shut))
 
 ended : (names : List (List ℕ)) (s : Shape) (bytes : List ℕ) (d : PlainDraft) (es : List Event) → IsRead names s bytes d → end_step s ≡ Some es → depth d ≡ 0 → IsWhole names bytes (draft_after names es d)
-ended names content bytes d es w e closes = absurd cc
-ended names next bytes d es w e closes = absurd cc
-ended names (label text) bytes d es w e closes = absurd cc
-ended names opened bytes d es w e closes = absurd cc
-ended names (string r) bytes d es w e closes = absurd cc
-ended names closed bytes d es w e closes =
+ended names content bytes d es w e shut = absurd cc
+ended names next bytes d es w e shut = absurd cc
+ended names (label text) bytes d es w e shut = absurd cc
+ended names opened bytes d es w e shut = absurd cc
+ended names (string r) bytes d es w e shut = absurd cc
+ended names closed bytes d es w e shut =
     let nothing_more : [] ≡ es = cc in
-    subst (λ l. IsWhole names bytes (draft_after names l d)) nothing_more (whole_closed names bytes d w closes)
-ended names behind bytes d es w e closes =
+    subst (λ l. IsWhole names bytes (draft_after names l d)) nothing_more (whole_closed names bytes d w shut)
+ended names behind bytes d es w e shut =
     let nothing_more : [] ≡ es = cc in
-    subst (λ l. IsWhole names bytes (draft_after names l d)) nothing_more (whole_behind names bytes d w closes)
-ended names (name text) bytes d es w e closes = by (truth_of text) refl e
+    subst (λ l. IsWhole names bytes (draft_after names l d)) nothing_more (whole_behind names bytes d w shut)
+ended names (name text) bytes d es w e shut = by (truth_of text) refl e
   where
     by : (o : Option Atom) → truth_of text ≡ o → end_named o ≡ Some es → IsWhole names bytes (draft_after names es d)
     by None is e = absurd cc
     by (Some x) is e =
         let pushed : push x ∷ [] ≡ es = cc in
-        subst (λ l. IsWhole names bytes (draft_after names l d)) pushed (whole_behind names bytes (add d (leaf tt x nil)) (named_behind names text x bytes d is w) (depth-add d (leaf tt x nil) ∙ closes))
+        subst (λ l. IsWhole names bytes (draft_after names l d)) pushed (whole_behind names bytes (add d (leaf tt x nil)) (named_behind names text x bytes d is w) (depth-add d (leaf tt x nil) ∙ shut))
 
 -- a text that is read to its end
 document_read : (old names : List (List ℕ)) (s : Shape) (bytes : List ℕ) (d new : PlainDraft) (es : List Event) → IsReader old names s bytes d → end_step s ≡ Some es → depth d ≡ 0 → new ≡ draft_after names es d → (v : Plain) × (new ≡ done v) × IsDocument old names bytes v
-document_read old names s bytes d new es r e closes draws = by (ended names s bytes d es r.is_read e closes)
+document_read old names s bytes d new es r e shut draws = by (ended names s bytes d es r.is_read e shut)
   where
     by : IsWhole names bytes (draft_after names es d) → (v : Plain) × (new ≡ done v) × IsDocument old names bytes v
-    by i = (i.forest, draws ∙ i.is_done, record {
-      spells = record { table = r.table; forest = i.spelled };
-      over = record { table = r.table; labels = spelled_labels i.spelled; atoms = spelled_atoms i.spelled };
-      learns = learnt_end old names s d es r.learns e ∙ ap (λ f. learnt old (draft_labels names f)) i.is_done;
-    })
+    by i = (
+      i.forest,
+      draws ∙ i.is_done,
+      record {
+        spells = record { table = r.table; forest = i.spelled };
+        over = record { table = r.table; labels = spelled_labels i.spelled; atoms = spelled_atoms i.spelled };
+        learns = learnt_end old names s d es r.learns e ∙ ap (λ f. learnt old (draft_labels names f)) i.is_done;
+      },
+    )
 
--- the same at a place of the whole text
+-- the reader is at a place of the whole text
+pub record HasPassed (old names : List (List ℕ)) (bytes : List ℕ) (i : ℕ) (d : PlainDraft) (state : State) : Type 0 where
+  pub reader : IsReader old names (shape_of names state) (take i bytes) d
+  pub sound : IsSound names state
+  pub within : i ≤ length bytes
 
-pub reader_next : (old names new : List (List ℕ)) (s : Shape) (bytes : List ℕ) (i : ℕ) (d e : PlainDraft) (state : State) → IsReader old names s (take i bytes) d → i < length bytes → IsTable new → IsTaken names (step s (depth d) (get_or bytes i 0)) d new e state → IsReader old new (shape_of new state) (take (i + 1) bytes) e
+reader_next : (old names new : List (List ℕ)) (s : Shape) (bytes : List ℕ) (i : ℕ) (d e : PlainDraft) (state : State) → IsReader old names s (take i bytes) d → i < length bytes → IsTable new → IsTaken names (step s (depth d) (get_or bytes i 0)) d new e state → IsReader old new (shape_of new state) (take (i + 1) bytes) e
 reader_next old names new s bytes i d e state r below table t =
     subst (λ l. IsReader old new (shape_of new state) l e) (sym (take_more bytes i 0 below)) (reader_step old names new s (get_or bytes i 0) (take i bytes) d e state r table t)
 
-pub document_ends : (old names : List (List ℕ)) (s : Shape) (bytes : List ℕ) (i : ℕ) (d new : PlainDraft) → IsReader old names s (take i bytes) d → length bytes ≤ i → IsEnded (end_step s) d new → (v : Plain) × (new ≡ done v) × IsDocument old names bytes v
-document_ends old names s bytes i d new r past e =
-    document_read old names s bytes d new e.events (subst (λ l. IsReader old names s l d) (take_all i bytes past) r) e.fits e.whole (e.draws names)
+-- a byte is taken
+pub byte_taken : (old names new : List (List ℕ)) (bytes : List ℕ) (i : ℕ) (d e : PlainDraft) (state after : State) → HasPassed old names bytes i d state → i < length bytes → IsTable new → IsTaken names (step (shape_of names state) (depth d) (get_or bytes i 0)) d new e after → HasPassed old new bytes (i + 1) e after
+byte_taken old names new bytes i d e state after has below table t = record {
+  reader = reader_next old names new (shape_of names state) bytes i d e after has.reader below table t;
+  sound = t.sound;
+  within = omega arith;
+}
 
-pub document_unended : (old names : List (List ℕ)) (s : Shape) (bytes : List ℕ) (i : ℕ) (d : PlainDraft) → IsReader old names s (take i bytes) d → length bytes ≤ i → end_fits (end_step s) (depth d) ≡ false → IsNoDocument bytes (length bytes)
-document_unended old names s bytes i d r past e =
-    unended old names s bytes d (subst (λ l. IsReader old names s l d) (take_all i bytes past) r) e
+-- a run of bytes is passed
+module _ (old names : List (List ℕ)) (bytes : List ℕ) (i n : ℕ) (d : PlainDraft) where
+  unpassed : (state new : State) → HasPassed old names bytes i d state → (n ≡ 0) × (new ≡ state) → HasPassed old names bytes (i + n) d new
+  unpassed state new has (none, is) =
+      let same : i + n ≡ i = omega (arith, none) in
+      subst (λ k. HasPassed old names bytes k d new) (sym same) (subst (HasPassed old names bytes i d) (sym is) has)
+
+  passed_over : (state new : State) → HasPassed old names bytes i d state → Passes state (drop i bytes) n new → HasPassed old names bytes (i + n) d new
+  passed_over (Text r) new has (few, s, run, is) = subst (HasPassed old names bytes (i + n) d) (sym is) (record {
+    reader = subst (λ l. IsReader old names (string s) l d) (sym (take-add i n bytes)) (reader_passes old names r s (take n (drop i bytes)) (take i bytes) d has.reader run);
+    sound = (has.sound.0 ++ take n (drop i bytes), read_then no_text has.sound.0 (take n (drop i bytes)) r has.sound.1 ∙ run);
+    within = omega (arith, length-drop i bytes, few, has.within);
+  })
+  passed_over Content new has p = unpassed Content new has p
+  passed_over Tree new has p = unpassed Tree new has p
+  passed_over (Name text) new has p = unpassed (Name text) new has p
+  passed_over (Label a) new has p = unpassed (Label a) new has p
+  passed_over Opened new has p = unpassed Opened new has p
+  passed_over Closed new has p = unpassed Closed new has p
+  passed_over Behind new has p = unpassed Behind new has p
+
+  pub run_passed : (state new : State) → HasPassed old names bytes i d state → Passes state (take (length bytes - i) (drop i bytes)) n new → HasPassed old names bytes (i + n) d new
+  run_passed state new has p =
+      passed_over state new has (subst (λ l. Passes state l n new) (take_all (length bytes - i) (drop i bytes) (omega (arith, length-drop i bytes))) p)
+
+module _ (old names : List (List ℕ)) (bytes : List ℕ) (i : ℕ) (d : PlainDraft) where
+  -- a byte that fits nowhere
+  pub misfit : (state : State) → HasPassed old names bytes i d state → i < length bytes → step (shape_of names state) (depth d) (get_or bytes i 0) ≡ None → IsNoDocument bytes i
+  misfit state has below none = misfit_at old names (shape_of names state) bytes i d has.reader below none
+
+  at_end : (state : State) → HasPassed old names bytes i d state → length bytes ≤ i → IsReader old names (shape_of names state) bytes d
+  at_end state has past =
+      subst (λ l. IsReader old names (shape_of names state) l d) (take_all i bytes past) has.reader
+
+module _ (old names : List (List ℕ)) (bytes : List ℕ) (i : ℕ) (d : PlainDraft) where
+  -- the end of the text
+  pub document_ends : (new : PlainDraft) (state : State) → HasPassed old names bytes i d state → length bytes ≤ i → IsEnded (end_step (shape_of names state)) d new → (v : Plain) × (new ≡ done v) × IsDocument old names bytes v
+  document_ends new state has past e =
+      document_read old names (shape_of names state) bytes d new e.events (at_end old names bytes i d state has past) e.fits e.whole (e.draws names)
+
+  pub document_unended : (state : State) → HasPassed old names bytes i d state → length bytes ≤ i → end_fits (end_step (shape_of names state)) (depth d) ≡ false → IsNoDocument bytes (length bytes)
+  document_unended state has past e =
+      unended old names (shape_of names state) bytes d (at_end old names bytes i d state has past) e
+
+-- nothing is read yet
+pub begins_reading : (names : List (List ℕ)) (bytes : List ℕ) (d : PlainDraft) → IsTable names → d ≡ done nil → HasPassed names names bytes 0 d Content
+begins_reading names bytes d table new = record {
+  reader = subst (IsReader names names content []) (sym new) (reader_new names table);
+  sound = tt;
+  within = omega arith;
+}

@@ -1,13 +1,12 @@
 -- The table learns the labels in the order of the text.
-use Rattle.std.proofs.Common.{◌≡◌, ℕ, zero, suc, ◌<◌, ◌≤◌, Bool, true, false, List, [], ◌∷◌, ◌++◌, length, slice_get, unwrap_or, bytes_eq, Option, Some, None, if◌then◌else◌, refl, sym, ap, ap₂, subst, ◌∙◌, append_assoc, arith}
-use Rattle.std.proofs.lemmas.List.{append-nil, length-append}
-use Rattle.std.proofs.lemmas.List.Elements.{All-nil, All-cons}
+use Rattle.std.proofs.Common.{◌≡◌, ℕ, zero, suc, ◌<◌, Bool, true, false, List, [], ◌∷◌, ◌++◌, length, slice_get, unwrap_or, bytes_eq, Option, Some, None, if◌then◌else◌, refl, sym, ap, ap₂, subst, ◌∙◌, append_assoc}
+use Rattle.std.proofs.lemmas.List.{append-nil}
 use Rattle.std.proofs.lemmas.Option.{slice_get_within}
-use Rattle.std.specs.Prelude.{All, IsSomeAnd}
+use Rattle.std.specs.Prelude.{IsSomeAnd}
 use Rattle.std.specs.List.{list_any}
 use Rattle.flux_atom.specs.declared.atom.Atom.{Atom}
 use Rattle.flux_atom.specs.declared.atom.Atom.TheVariants.{Bool as Truth, Text}
-use Rattle.flux_atom.specs.Names.{name_text, IsLabel, IsTable, with_text}
+use Rattle.flux_atom.specs.Names.{name_text, IsLabel, with_text}
 use Rattle.flux_atom.specs.Spelling.{IsLiteral}
 use Rattle.flux_atom.specs.TextSteps.{TextStep, on, closes, misfits, TextRead, text_step}
 use Rattle.flux_atom.proofs.TextLaws.{items_utf8}
@@ -16,13 +15,13 @@ use Rattle.flux_trees.specs.Draft.{done, begun, add, begin, end}
 use Rattle.flux_trees.specs.Each.{EachLabel, EachAtom}
 use Rattle.flux_doctext.specs.declared.sign.Sign.{Sign}
 use Rattle.flux_doctext.specs.declared.sign.Sign.TheVariants.{Space, Letter, Digit, Quote, Comma, LeftBracket, RightBracket, LeftParen, RightParen, Other}
-use Rattle.flux_doctext.specs.Spells.{Part, Spelled, whole, none, some, nothing, something, last, more, element, atom}
+use Rattle.flux_doctext.specs.Spells.{Part, Spelled, none, some, nothing, something, last, more, element, atom}
 use Rattle.flux_doctext.specs.Text.{NamesLabel, IsProper}
 use Rattle.flux_doctext.specs.Labels.{labels, learnt}
 use Rattle.flux_doctext.specs.Reading.{sign_of, Shape, content, next, name, label, opened, closed, string, behind, Event, learn, enter, push, leave, Step, told, close_step, content_step, tree_step, behind_step, label_step, closed_step, opened_step, named_step, name_step, string_step, truth_of, step, end_named, end_step, number_of, PlainDraft, draft_after, names_after}
-use Rattle.flux_doctext.proofs.TextLaws.{slice_get-more, labels_within, NamesLabel-within}
+use Rattle.flux_doctext.proofs.TextLaws.{slice_get-more, labels_within}
 use Rattle.flux_doctext.proofs.Drafts.{EachDraftLabel}
-use Rattle.flux_doctext.proofs.Written.{Ahead, first, further, Core, Written}
+use Rattle.flux_doctext.proofs.Written.{Ahead, first, further, Core}
 use Rattle.flux_doctext.proofs.WrittenLaws.{with_text-number}
 use Rattle.flux_doctext.proofs.StepLaws.{IsRead}
 use Rattle.flux_doctext.proofs.ReadLaws.{number_found}

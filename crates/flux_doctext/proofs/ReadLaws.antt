@@ -1,5 +1,5 @@
 -- What is spelled is read: a reader goes from the beginning of each part to its end, and gives the forest.
-use Rattle.std.proofs.Common.{◌≡◌, ℕ, zero, suc, ◌+◌, ◌-◌, Bool, true, false, ◌||◌, ◌==◌, List, [], ◌∷◌, ◌++◌, length, slice_get, codes, drop, bytes_eq, Option, Some, None, ◌⊎◌, inl, inr, if◌then◌else◌, refl, sym, ap, subst, ◌∙◌, append_assoc, arith}
+use Rattle.std.proofs.Common.{◌≡◌, ℕ, zero, suc, Bool, true, false, ◌==◌, List, [], ◌∷◌, ◌++◌, slice_get, codes, drop, bytes_eq, Option, Some, None, ◌⊎◌, inl, inr, if◌then◌else◌, refl, sym, ap, subst, ◌∙◌, append_assoc}
 use Rattle.std.proofs.lemmas.Bool.{false≢true}
 use Rattle.std.proofs.lemmas.List.{append-nil}
 use Rattle.std.proofs.lemmas.List.Elements.{All-head, All-tail}
@@ -8,13 +8,12 @@ use Rattle.std.proofs.lemmas.Slice.Eq.{bytes_eq-Decides}
 use Rattle.std.specs.List.{AllPass}
 use Rattle.flux_atom.specs.declared.atom.Atom.{Atom}
 use Rattle.flux_atom.specs.declared.atom.Atom.TheVariants.{Bool as Truth, Text}
-use Rattle.flux_atom.specs.declared.text.TextState.{TextState}
 use Rattle.flux_atom.specs.declared.text.TextState.TheVariants.{Between}
-use Rattle.flux_atom.specs.Names.{begins_name, continues_name, EndsName, IsName, IsLabel, IsTable}
-use Rattle.flux_atom.specs.Literal.{quote, literal}
+use Rattle.flux_atom.specs.Names.{continues_name, EndsName, IsName, IsLabel, IsTable}
+use Rattle.flux_atom.specs.Literal.{quote}
 use Rattle.flux_atom.specs.Spelling.{IsLiteral, AreItems}
 use Rattle.flux_atom.specs.TextSteps.{TextStep, on, closes, misfits, TextRead, text_step, no_text, read_on, and_read as and_text, read_text}
-use Rattle.flux_trees.specs.Hedge.{Plain, nil, elem, leaf, join}
+use Rattle.flux_trees.specs.Hedge.{Plain, nil, elem, leaf}
 use Rattle.flux_trees.specs.Draft.{done, depth, add, begin, end}
 use Rattle.flux_trees.proofs.DraftLaws.{depth-add, depth-begin, depth-end, add-nil, add-add, end-begin}
 use Rattle.flux_doctext.specs.declared.sign.Sign.{Sign}
@@ -23,7 +22,6 @@ use Rattle.flux_doctext.specs.Spells.{is_space, IsSpace, Part, whole, inside, tr
 use Rattle.flux_doctext.specs.Reading.{sign_of, Shape, content, next, name, label, opened, closed, string, behind, Event, learn, enter, push, leave, Step, told, close_step, content_step, tree_step, behind_step, label_step, closed_step, opened_step, named_step, name_step, string_step, truth_of, step, end_named, end_step, number_of, PlainDraft, draft_after, depth_after, and_fits, end_fits, fits, and_read, end_read, read}
 use Rattle.flux_atom.proofs.TextLaws.{read_items}
 use Rattle.flux_doctext.proofs.TextLaws.{EndsTrees}
-use Rattle.flux_doctext.proofs.Literals.{IsName-continues}
 use Rattle.flux_doctext.proofs.Signs.{space_sign, letter_sign, named_sign, not_named, spaces_end, IsNamed}
 
 -- the number of a text that the table holds
@@ -308,4 +306,3 @@ module _ (names : List (List ℕ)) where
   spelled_once bytes v w table x y =
       let same : Some (done v) ≡ Some (done w) = sym (read_spelled bytes v table x) ∙ read_spelled bytes w table y in
       cc
-

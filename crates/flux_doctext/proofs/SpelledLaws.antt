@@ -1,11 +1,10 @@
 -- What is spelled goes on: white space, one tree more, a table with more names.
-use Rattle.std.proofs.Common.{◌≡◌, ℕ, Bool, true, false, List, [], ◌∷◌, ◌++◌, slice_get, codes, Some, ◌⊎◌, inl, inr, refl, sym, ap, subst, ◌∙◌, append_assoc, arith}
-use Rattle.std.proofs.lemmas.List.{append-nil}
+use Rattle.std.proofs.Common.{◌≡◌, ℕ, true, List, [], ◌∷◌, ◌++◌, slice_get, codes, Some, refl, sym, ap, ◌∙◌, append_assoc}
 use Rattle.std.proofs.lemmas.List.Elements.{All-push, All-nil}
 use Rattle.std.proofs.lemmas.Option.{slice_get_within}
-use Rattle.flux_trees.specs.Hedge.{Plain, nil, elem, leaf, join}
-use Rattle.flux_trees.proofs.HedgeLaws.{join-nil, join_assoc}
-use Rattle.flux_doctext.specs.Spells.{is_space, IsSpace, Part, whole, inside, trees, tree, Spelled, none, some, nothing, something, last, more, element, atom}
+use Rattle.flux_trees.specs.Hedge.{Plain, join}
+use Rattle.flux_trees.proofs.HedgeLaws.{join_assoc}
+use Rattle.flux_doctext.specs.Spells.{is_space, IsSpace, Part, whole, trees, tree, Spelled, none, some, nothing, something, last, more, element, atom}
 use Rattle.flux_doctext.proofs.TextLaws.{slice_get-more}
 
 pub no_space : IsSpace []

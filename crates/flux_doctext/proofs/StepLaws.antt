@@ -1,31 +1,27 @@
 -- A byte that fits leaves what is read well read.
-use Rattle.std.proofs.Common.{◌≡◌, ℕ, zero, suc, ◌<◌, Bool, true, false, List, [], ◌∷◌, ◌++◌, slice_get, codes, bytes_eq, Option, Some, None, ◌⊎◌, inl, inr, if◌then◌else◌, refl, sym, ap, subst, ◌∙◌, append_assoc, arith}
+use Rattle.std.proofs.Common.{◌≡◌, ℕ, zero, suc, Bool, true, false, List, [], ◌∷◌, ◌++◌, codes, bytes_eq, Option, Some, None, if◌then◌else◌, refl, sym, ap, subst, ◌∙◌, append_assoc, arith}
 use Rattle.std.proofs.lemmas.Bool.{false≢true}
 use Rattle.std.proofs.lemmas.List.{append-nil}
 use Rattle.std.proofs.lemmas.List.Elements.{All-push, All-nil}
 use Rattle.std.proofs.lemmas.Slice.Eq.{bytes_eq-Decides}
-use Rattle.std.specs.List.{list_any, AllPass}
 use Rattle.flux_atom.specs.declared.atom.Atom.{Atom}
 use Rattle.flux_atom.specs.declared.atom.Atom.TheVariants.{Bool as Truth, Text}
-use Rattle.flux_atom.specs.declared.text.TextState.{TextState}
-use Rattle.flux_atom.specs.declared.text.TextState.TheVariants.{Between}
-use Rattle.flux_atom.specs.Names.{begins_name, continues_name, IsName, IsLabel, IsTable, with_text}
-use Rattle.flux_atom.specs.Literal.{quote, literal}
-use Rattle.flux_atom.specs.Spelling.{IsLiteral, AreItems}
-use Rattle.flux_atom.specs.TextSteps.{TextStep, on, closes, misfits, TextRead, text_step, no_text, read_on, and_read as and_text, read_text}
+use Rattle.flux_atom.specs.Names.{continues_name, IsName, with_text}
+use Rattle.flux_atom.specs.Literal.{quote}
+use Rattle.flux_atom.specs.Spelling.{IsLiteral}
+use Rattle.flux_atom.specs.TextSteps.{TextStep, on, closes, misfits, TextRead, text_step, no_text, read_on, and_read as and_text}
 use Rattle.flux_atom.proofs.TextLaws.{read_then, items_read, closes_at_quote}
-use Rattle.flux_trees.specs.Hedge.{Plain, nil, elem, leaf, join}
-use Rattle.flux_trees.specs.Draft.{done, begun, depth, add, begin, end}
+use Rattle.flux_trees.specs.Hedge.{Plain, nil, leaf, join}
+use Rattle.flux_trees.specs.Draft.{depth, add, end}
 use Rattle.flux_trees.proofs.DraftLaws.{depth-add}
 use Rattle.flux_doctext.specs.declared.sign.Sign.{Sign}
 use Rattle.flux_doctext.specs.declared.sign.Sign.TheVariants.{Space, Letter, Digit, Quote, Comma, LeftBracket, RightBracket, LeftParen, RightParen, Other}
-use Rattle.flux_doctext.specs.Spells.{is_space, IsSpace, whole, inside, trees, tree, Spelled, none, some, nothing, something, last, element, atom}
-use Rattle.flux_doctext.specs.Reading.{sign_of, Shape, content, next, name, label, opened, closed, string, behind, Event, learn, enter, push, leave, Step, told, close_step, content_step, tree_step, behind_step, label_step, closed_step, opened_step, named_step, name_step, string_step, truth_of, step, number_of, PlainDraft, draft_after, names_after}
-use Rattle.flux_doctext.proofs.ReadLaws.{number_found}
+use Rattle.flux_doctext.specs.Spells.{is_space, inside, trees, Spelled, none, some, nothing, something, atom}
+use Rattle.flux_doctext.specs.Reading.{sign_of, Shape, content, next, name, label, opened, closed, string, behind, learn, push, Step, told, close_step, content_step, tree_step, behind_step, label_step, closed_step, opened_step, named_step, name_step, string_step, truth_of, step, number_of, PlainDraft, draft_after, names_after}
 use Rattle.flux_doctext.proofs.Signs.{IsSignOf, sign_is, begins-continues}
 use Rattle.flux_doctext.proofs.SpelledLaws.{no_space, one_space, trees_space, whole_space}
 use Rattle.flux_doctext.proofs.WrittenLaws.{written-with_text, with_text-number, lifted, lifted_add, lifted_begin, lifted_end, tree_behind}
-use Rattle.flux_doctext.proofs.Written.{Ahead, first, further, Begun, IsLabelled, IsQuoted, IsOpening, IsParenthesis, Core, Level, Written}
+use Rattle.flux_doctext.proofs.Written.{first, further, Begun, IsLabelled, IsQuoted, IsOpening, Core, Written}
 
 -- what is read where a reader is so
 abbrev pub IsRead : List (List ℕ) → Shape → List ℕ → PlainDraft → Type 0

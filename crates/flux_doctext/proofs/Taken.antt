@@ -1,11 +1,11 @@
 -- The steps of the reader, as its functions take them.
-use Rattle.std.proofs.Common.{◌≡◌, ℕ, ◌<◌, Bool, true, false, List, [], ◌∷◌, ◌++◌, length, slice_get, unwrap_or, Option, ◌⊎◌, inl, inr, Some, None, Result, Ok, Err, IfOk, IsTrue, IsUtf8, refl, sym, ap, subst, ◌∙◌, arith}
+use Rattle.std.proofs.Common.{◌≡◌, ℕ, ◌<◌, Bool, true, false, List, [], ◌∷◌, ◌++◌, length, slice_get, unwrap_or, Option, ◌⊎◌, inl, inr, Some, None, Result, Ok, Err, IfOk, IsTrue, IsUtf8, refl, sym, ap, subst, ◌∙◌}
 use Rattle.std.specs.Prelude.{◌↔◌}
 use Rattle.std.proofs.lemmas.Bool.{false≢true, ne_eqb}
-use Rattle.std.proofs.lemmas.List.Elements.{All-push, All-nil}
-use Rattle.std.proofs.lemmas.Option.{slice_get_within, slice_get-get_or, unwrap_or-slice_get}
+use Rattle.std.proofs.lemmas.List.Elements.{All-push}
+use Rattle.std.proofs.lemmas.Option.{slice_get-get_or, unwrap_or-slice_get}
 use Rattle.flux_atom.specs.declared.atom.Atom.{Atom}
-use Rattle.flux_atom.specs.Names.{name_text, begins_name, continues_name, IsName, IsTable, with_text}
+use Rattle.flux_atom.specs.Names.{name_text, continues_name, IsName, IsTable, with_text}
 use Rattle.flux_atom.specs.TextSteps.{TextStep, on, closes, misfits, TextRead, text_step, no_text, read_on, and_read as and_text, read_text}
 use Rattle.flux_atom.proofs.TextLaws.{read_then, items_read, closes_at_quote, items_utf8}
 use Rattle.flux_trees.specs.Hedge.{nil, leaf}
@@ -15,8 +15,8 @@ use Rattle.flux_doctext.specs.declared.reader.State.{State}
 use Rattle.flux_doctext.specs.declared.reader.State.TheVariants.{Content, Text}
 use Rattle.flux_doctext.specs.declared.sign.Sign.{Sign}
 use Rattle.flux_doctext.specs.declared.sign.Sign.TheVariants.{Space, Letter, Digit, Quote, Comma, LeftBracket, RightBracket, LeftParen, RightParen, Other}
-use Rattle.flux_doctext.specs.Reading.{sign_of, Shape, content, name, string, learn, enter, push, Step, told, behind_step, content_step, tree_step, label_step, named_step, name_step, string_step, truth_of, end_named, number_of, PlainDraft, draft_after, names_after}
-use Rattle.flux_doctext.specs.Steps.{shape_of, IsSound, IsTaken, Follows, IsEnded, Ends}
+use Rattle.flux_doctext.specs.Reading.{sign_of, content, name, string, learn, enter, push, Step, told, behind_step, content_step, tree_step, label_step, named_step, name_step, string_step, truth_of, end_named, PlainDraft, names_after}
+use Rattle.flux_doctext.specs.Steps.{shape_of, IsSound, IsTaken, Follows, Ends}
 use Rattle.flux_doctext.proofs.ReadLaws.{number_is}
 use Rattle.flux_doctext.proofs.Signs.{IsNamed, named_continues}
 

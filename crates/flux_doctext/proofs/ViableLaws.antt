@@ -1,5 +1,5 @@
 -- What is read can be ended.
-use Rattle.std.proofs.Common.{◌≡◌, ℕ, zero, suc, ◌<◌, Bool, true, false, List, [], ◌∷◌, ◌++◌, length, slice_get, codes, bytes_eq, Option, Some, None, ◌⊎◌, inl, inr, if◌then◌else◌, refl, sym, ap, subst, ◌∙◌, append_assoc, arith}
+use Rattle.std.proofs.Common.{◌≡◌, ℕ, zero, suc, Bool, true, false, List, [], ◌∷◌, ◌++◌, length, slice_get, codes, bytes_eq, Option, Some, None, ◌⊎◌, inl, inr, if◌then◌else◌, refl, sym, ap, subst, ◌∙◌, append_assoc, arith}
 use Rattle.std.proofs.lemmas.Bool.{false≢true}
 use Rattle.std.proofs.lemmas.List.{append-nil}
 use Rattle.std.proofs.lemmas.List.Elements.{All-push}
@@ -17,7 +17,7 @@ use Rattle.flux_trees.specs.Draft.{done, begun, depth, add, begin, end}
 use Rattle.flux_trees.proofs.DraftLaws.{depth-end}
 use Rattle.flux_doctext.specs.Spells.{Spelled, whole, inside, something, some, Spells, IsViable}
 use Rattle.flux_doctext.specs.Reading.{Shape, content, next, name, label, opened, closed, string, behind, truth_of, number_of, PlainDraft}
-use Rattle.flux_doctext.proofs.Written.{IsQuoted, Core, Written}
+use Rattle.flux_doctext.proofs.Written.{IsQuoted, Core}
 use Rattle.flux_doctext.proofs.WrittenLaws.{lifted, lifted_end}
 use Rattle.flux_doctext.proofs.StepLaws.{IsRead, begun_more, named_behind, named_label, step_kept}
 

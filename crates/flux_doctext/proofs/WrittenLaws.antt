@@ -1,30 +1,17 @@
 -- What is read stays read, byte by byte.
-use Rattle.std.proofs.Common.{◌≡◌, ℕ, zero, suc, ◌<◌, Bool, true, false, List, [], ◌∷◌, ◌++◌, slice_get, codes, bytes_eq, Option, Some, None, ◌⊎◌, inl, inr, if◌then◌else◌, refl, sym, ap, subst, ◌∙◌, append_assoc, arith}
+use Rattle.std.proofs.Common.{◌≡◌, ℕ, suc, ◌<◌, Bool, true, false, List, [], ◌∷◌, ◌++◌, slice_get, codes, bytes_eq, Some, if◌then◌else◌, refl, sym, ap, subst, ◌∙◌, append_assoc, arith}
 use Rattle.std.proofs.lemmas.Bool.{false≢true}
 use Rattle.std.proofs.lemmas.List.{append-nil}
-use Rattle.std.proofs.lemmas.List.Elements.{All-push, All-nil}
 use Rattle.std.proofs.lemmas.Slice.Eq.{bytes_eq-Decides}
-use Rattle.std.specs.List.{list_any, AllPass}
-use Rattle.flux_atom.specs.declared.atom.Atom.{Atom}
-use Rattle.flux_atom.specs.declared.atom.Atom.TheVariants.{Bool as Truth, Text}
-use Rattle.flux_atom.specs.declared.text.TextState.{TextState}
-use Rattle.flux_atom.specs.declared.text.TextState.TheVariants.{Between}
-use Rattle.flux_atom.specs.Names.{begins_name, continues_name, IsName, IsLabel, IsTable, with_text}
-use Rattle.flux_atom.specs.Literal.{quote, literal}
-use Rattle.flux_atom.specs.Spelling.{IsLiteral, AreItems}
-use Rattle.flux_atom.specs.TextSteps.{TextStep, on, closes, misfits, TextRead, text_step, no_text, read_on, and_read as and_text, read_text}
-use Rattle.flux_atom.proofs.TextLaws.{read_then, items_read, closes_at_quote}
-use Rattle.flux_trees.specs.Hedge.{Plain, nil, elem, leaf, join}
+use Rattle.std.specs.List.{list_any}
+use Rattle.flux_atom.specs.Names.{with_text}
+use Rattle.flux_trees.specs.Hedge.{Plain, nil, elem, join}
 use Rattle.flux_trees.specs.Draft.{done, begun, depth, add, begin, end}
-use Rattle.flux_trees.proofs.DraftLaws.{depth-add}
-use Rattle.flux_doctext.specs.declared.sign.Sign.{Sign}
-use Rattle.flux_doctext.specs.declared.sign.Sign.TheVariants.{Space, Letter, Digit, Quote, Comma, LeftBracket, RightBracket, LeftParen, RightParen, Other}
-use Rattle.flux_doctext.specs.Spells.{is_space, IsSpace, whole, inside, trees, tree, Spelled, none, some, nothing, something, last, element, atom}
-use Rattle.flux_doctext.specs.Reading.{sign_of, Shape, content, next, name, label, opened, closed, string, behind, Event, learn, enter, push, leave, Step, told, close_step, content_step, tree_step, behind_step, label_step, closed_step, opened_step, named_step, name_step, string_step, truth_of, step, number_of, PlainDraft, draft_after, names_after}
+use Rattle.flux_doctext.specs.Spells.{inside, trees, tree, Spelled, last, element}
+use Rattle.flux_doctext.specs.Reading.{Shape, content, next, name, label, opened, closed, string, behind, step, number_of, PlainDraft}
 use Rattle.flux_doctext.proofs.ReadLaws.{number_found}
-use Rattle.flux_doctext.proofs.Signs.{IsSignOf, sign_is, begins-continues}
-use Rattle.flux_doctext.proofs.SpelledLaws.{no_space, one_space, held_more, spelled-more, trees_space, whole_space, trees_push}
-use Rattle.flux_doctext.proofs.Written.{Ahead, first, further, Begun, IsLabelled, IsQuoted, IsOpening, IsParenthesis, Core, Level, Written}
+use Rattle.flux_doctext.proofs.SpelledLaws.{no_space, held_more, spelled-more, trees_push}
+use Rattle.flux_doctext.proofs.Written.{Ahead, first, further, Begun, IsLabelled, IsOpening, Core, Written}
 
 -- the same over a table with more names
 

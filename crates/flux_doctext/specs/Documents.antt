@@ -1,6 +1,5 @@
 -- What it means to read a document: the forest that it spells, or where it stops being a document.
 use Rattle.std.specs.Prelude.{◌≡◌, ℕ, List}
-use Rattle.flux_atom.specs.Names.{IsTable}
 use Rattle.flux_atom.specs.Spelling.{IsLongest}
 use Rattle.flux_trees.specs.Hedge.{Plain}
 use Rattle.flux_doctext.specs.declared.read.DocFault.{DocFault}

@@ -1,9 +1,9 @@
 -- A reader of documents, byte by byte. `Spells` is what it follows.
-use Rattle.std.specs.Prelude.{◌≡◌, ℕ, ◌+◌, ◌-◌, ◌≤◌, Bool, true, false, ◌&&◌, ◌==◌, List, [], ◌∷◌, ◌++◌, length, Option, Some, None, codes, bytes_eq, if◌then◌else◌}
+use Rattle.std.specs.Prelude.{ℕ, ◌-◌, Bool, true, false, ◌==◌, List, [], ◌∷◌, ◌++◌, Option, Some, None, codes, bytes_eq, if◌then◌else◌}
 use Rattle.std.proofs.Common.{zero, suc}
 use Rattle.flux_atom.specs.declared.atom.Atom.{Atom}
 use Rattle.flux_atom.specs.declared.atom.Atom.TheVariants.{Bool as Truth, Text}
-use Rattle.flux_atom.specs.Names.{begins_name, continues_name, IsTable, with_text}
+use Rattle.flux_atom.specs.Names.{begins_name, continues_name, with_text}
 use Rattle.flux_atom.specs.Literal.{quote}
 use Rattle.flux_atom.specs.TextSteps.{TextStep, on, closes, misfits, TextRead, text_step, no_text}
 use Rattle.flux_trees.specs.Hedge.{nil, leaf}

@@ -1,7 +1,7 @@
 -- What the states of the reader stand for, and what its steps do.
-use Rattle.std.specs.Prelude.{◌≡◌, ℕ, ◌+◌, ◌<◌, ◌≤◌, Bool, true, false, List, [], ◌++◌, length, Option, Some, None, string_bytes}
+use Rattle.std.specs.Prelude.{◌≡◌, ℕ, ◌+◌, ◌<◌, ◌≤◌, Bool, true, false, List, ◌++◌, length, take, Option, Some, None, string_bytes}
 use Rattle.flux_atom.specs.Names.{name_text, IsName, IsTable}
-use Rattle.flux_atom.specs.TextSteps.{no_text, read_text}
+use Rattle.flux_atom.specs.TextSteps.{TextRead, no_text, read_text}
 use Rattle.flux_trees.specs.Draft.{depth}
 use Rattle.flux_doctext.specs.declared.reader.State.{State}
 use Rattle.flux_doctext.specs.declared.reader.State.TheVariants.{Content, Tree, Name, Label, Opened, Closed, Text, Behind}
@@ -55,3 +55,8 @@ pub record IsEnded (end : Option (List Event)) (d new : PlainDraft) : Type 0 whe
 abbrev pub Ends : Option (List Event) → PlainDraft → PlainDraft → Bool → Type 0
 Ends end d new true = IsEnded end d new
 Ends end d new false = end_fits end (depth d) ≡ false
+
+-- a run of bytes is passed: in a string it goes on behind them, and elsewhere there are none
+abbrev pub Passes : State → List ℕ → ℕ → State → Type 0
+Passes (Text r) bytes n new = (n ≤ length bytes) × (s : TextRead) × (read_text r (take n bytes) ≡ Some s) × (new ≡ Text s)
+Passes state bytes n new = (n ≡ 0) × (new ≡ state)

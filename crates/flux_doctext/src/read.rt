@@ -5,7 +5,7 @@ ghost use Rattle.flux_trees.specs.Hedge.{Plain};
 ghost use Rattle.flux_trees.specs.Draft.{done};
 ghost use Rattle.flux_doctext.specs.Documents.{IsDocFault, IsDocument};
 
-use crate::reader::{State, end, step};
+use crate::reader::{State, end, pass_plain, step};
 use flux_atom::Names;
 use flux_forest::Forest;
 use std::alloc::{AllocError, Global};
@@ -19,13 +19,19 @@ pub enum DocFault {
     Memory(AllocError),
 }
 
+impl From<AllocError> for DocFault {
+    ghost use Rattle.flux_doctext.specs.declared.read.DocFault.TheVariants.{Memory};
+
+    ghost from_gives = { λ error fault. fault ≡ Memory error };
+
+    fn from(error: AllocError) -> DocFault {
+        DocFault::Memory(error)
+    }
+}
+
 /// The forest that the bytes spell. The table learns the labels in the order of the text; of a
 /// text that is refused it may hold some, behind the names that it held.
-pub fn read_document(
-    alloc: Global,
-    bytes: &[u8],
-    names: &mut Names,
-) -> Result<Forest, DocFault>
+pub fn read_document(alloc: Global, bytes: &[u8], names: &mut Names) -> Result<Forest, DocFault>
     requires { length names.old + length bytes.now < 2 ^ 32 - 1 }
     ensures ok { IfOk result (λ forest. (v : Plain) × (forest ≡ done v) × IsDocument names.old names.new bytes.now v) }
     ensures fault { IfErr result (IsDocFault bytes.now) }
@@ -38,17 +44,23 @@ pub fn read_document(
     prove!(bytes.len() < u32::MAX as usize - held);
     let mut forest = Forest::new(alloc);
     let mut state = State::Content;
-    for (place, byte) in bytes.iter().enumerate() {
-        match step(alloc, state, *byte, names, &mut forest) {
-            Ok(Some(next)) => state = next,
-            Ok(None) => return Err(DocFault::Text { place: place as u32 }),
-            Err(error) => return Err(DocFault::Memory(error)),
-        }
+    let mut place = 0;
+    'bytes: while place < bytes.len() {
+        let Some(next) = step(alloc, state, bytes[place], names, &mut forest)? else {
+            return Err(DocFault::Text {
+                place: place as u32,
+            });
+        };
+        state = next;
+        place += 1;
+        place += pass_plain(&mut state, &bytes[place..])?;
     }
-    match end(state, &mut forest) {
-        Ok(true) => Ok(forest),
-        Ok(false) => Err(DocFault::Text { place: bytes.len() as u32 }),
-        Err(error) => Err(DocFault::Memory(error)),
+    if end(state, &mut forest)? {
+        Ok(forest)
+    } else {
+        Err(DocFault::Text {
+            place: bytes.len() as u32,
+        })
     }
 }
 

@@ -4,7 +4,7 @@ ghost use Rattle.flux_atom.specs.Names.{name_text, IsName, IsTable};
 ghost use Rattle.flux_atom.specs.TextSteps.{no_text, read_text, text_step};
 ghost use Rattle.flux_trees.specs.Draft.{Draft, depth};
 ghost use Rattle.flux_doctext.specs.Reading.{behind_step, close_step, closed_step, content_step, end_named, end_step, label_step, name_step, named_step, opened_step, sign_of, step, string_step, tree_step, truth_of};
-ghost use Rattle.flux_doctext.specs.Steps.{shape_of, Ends, Follows, HasGrown, IsSound};
+ghost use Rattle.flux_doctext.specs.Steps.{shape_of, Ends, Follows, HasGrown, IsSound, Passes};
 
 use crate::sign::Sign;
 use flux_atom::{Atom, Name, Names, Taken, TextReader};
@@ -77,12 +77,7 @@ fn in_content(
 }
 
 // White space before a tree, or its first byte.
-fn at_tree(
-    alloc: Global,
-    state: State,
-    sign: Sign,
-    byte: u8,
-) -> Result<Option<State>, AllocError>
+fn at_tree(alloc: Global, state: State, sign: Sign, byte: u8) -> Result<Option<State>, AllocError>
     requires { sign ≡ sign_of byte }
     ensures { (names : List (List ℕ)) (d : Draft (Unit {0})) → IsSound names state → IfOk result (Follows names (tree_step (shape_of names state) byte sign) d names d) }
 {
@@ -153,11 +148,7 @@ fn behind_name(
     }
 }
 
-fn behind_label(
-    name: Name,
-    sign: Sign,
-    forest: &mut Forest,
-) -> Result<Option<State>, AllocError>
+fn behind_label(name: Name, sign: Sign, forest: &mut Forest) -> Result<Option<State>, AllocError>
     ensures { (names : List (List ℕ)) → IsTable names → name < length names → IfOk result (Follows names (label_step (name_text names name) sign) forest.old names forest.new) }
 {
     match sign {
@@ -190,11 +181,7 @@ fn behind_parentheses(sign: Sign, forest: &mut Forest) -> Option<State>
     }
 }
 
-fn in_text(
-    mut text: TextReader,
-    byte: u8,
-    forest: &mut Forest,
-) -> Result<Option<State>, AllocError>
+fn in_text(mut text: TextReader, byte: u8, forest: &mut Forest) -> Result<Option<State>, AllocError>
     requires { (items : List ℕ) × (read_text no_text items ≡ Some text) }
     ensures { (names : List (List ℕ)) → IfOk result (Follows names (string_step text (text_step text.0 byte)) forest.old names forest.new) }
 {
@@ -228,6 +215,17 @@ fn end_element(forest: &mut Forest) -> Option<State>
     }
     forest.end_element();
     Some(State::Behind)
+}
+
+// In a string, the bytes in front that stand for themselves: it goes on behind them. Returns how
+// many they are.
+pub(crate) fn pass_plain(state: &mut State, bytes: &[u8]) -> Result<usize, AllocError>
+    ensures { IfOk result (λ count. Passes state.old bytes.now count state.new) }
+{
+    match state {
+        State::Text(text) => text.take_plain(bytes),
+        _ => Ok(0),
+    }
 }
 
 // Whether the text may end here, where the last atom may end too.

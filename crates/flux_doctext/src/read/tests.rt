@@ -8,11 +8,7 @@ use std::test::Fail;
 const LIBRARY: &[u8] = b"lib[book[\"A\"],cd[\"B\"]]";
 
 // The canonical text of the forest that a text spells, and how many names there are then.
-fn canonical(
-    rt: &impl Abort,
-    alloc: Global,
-    document: &[u8],
-) -> Result<(Vec<u8>, usize), Fail> {
+fn canonical(rt: &impl Abort, alloc: Global, document: &[u8]) -> Result<(Vec<u8>, usize), Fail> {
     assert!(rt; document.len() < 100_000_000);
     let mut names = Names::new(alloc);
     let forest = read_document(alloc, document, &mut names)?;

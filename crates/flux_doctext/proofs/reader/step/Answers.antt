@@ -1,4 +1,3 @@
-use Rattle.std.proofs.Common.{ap}
 use Rattle.flux_doctext.proofs.reader.step.Goals as goal
 
 pub returns-in-Content-clause-next : goal.returns-in-Content-clause-next
