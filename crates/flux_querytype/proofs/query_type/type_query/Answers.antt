@@ -4,7 +4,7 @@ use Rattle.flux_querytype.proofs.Known.{typed_usable, ready_of}
 use Rattle.flux_querytype.proofs.query_type.type_query.Goals as goal
 
 pub type_of-requires : goal.type_of-requires
-type_of-requires g c = ready_of (g.D.Decider.definitions c.args.decider.now) _ c.args.gamma.now c.defs.ensures c.len-count.ensures.kept c.requires
+type_of-requires g c = record { ready = ready_of (g.D.Decider.definitions c.args.decider.now) _ c.args.gamma.now c.defs.ensures c.len-count.ensures.kept c.requires }
 
 pub returns-clause-usable : goal.returns-clause-usable
 returns-clause-usable g c =
