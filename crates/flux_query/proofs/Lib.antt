@@ -1,1 +1,3 @@
 pub mod EnvLaws
+pub mod TreeLaws
+pub mod ValueLaws

@@ -3,8 +3,12 @@
 #![tactic(auto)]
 
 mod env;
+mod evaluate;
 mod query;
+mod trees;
+mod value;
 
 pub use env::Env;
+pub use evaluate::eval;
 pub use flux_calculus::{Span, Test, Var};
 pub use query::Query;

@@ -120,3 +120,47 @@ fn appends_copies(rt: HostRuntime) -> Result<(), Fail> {
     assert_eq!(rt; shape.as_slice(), ["A", "", "["].as_slice());
     Ok(())
 }
+
+// As many truth values in a row.
+#[tactic(auto, using(flux_trees::proofs::DraftLaws::drafts))]
+fn truths(alloc: Global, count: usize) -> Result<Forest, AllocError>
+    ensures { IfOk result (λ forest. depth forest ≡ 0) }
+{
+    let mut forest = Forest::new(alloc);
+    for at in 0..count {
+        forest.push_atom(Atom::Bool(at % 2 == 0))?;
+    }
+    Ok(forest)
+}
+
+#[test]
+fn tells_forests_apart(rt: HostRuntime) -> Result<(), Fail> {
+    let alloc = rt.alloc();
+    let name = a_name(alloc)?;
+    let forest = pairs(alloc, name)?;
+    let again = pairs(alloc, name)?;
+    let empty = Forest::new(alloc);
+    let long = truths(alloc, 1000)?;
+    let longer = truths(alloc, 1001)?;
+    assert!(rt; forest.view().equal(again.view()));
+    assert!(rt; empty.view().equal(empty.view()));
+    assert!(rt; !forest.view().equal(empty.view()));
+    assert!(rt; !forest.view().equal(inside(again.view())));
+    assert!(rt; long.view().equal(long.view()));
+    assert!(rt; !long.view().equal(longer.view()));
+    Ok(())
+}
+
+#[test]
+fn counts_and_copies(rt: HostRuntime) -> Result<(), Fail> {
+    let alloc = rt.alloc();
+    let forest = pairs(alloc, a_name(alloc)?)?;
+    let empty = Forest::new(alloc);
+    let long = truths(alloc, 1000)?;
+    for (view, count) in [(forest.view(), 7), (empty.view(), 0), (long.view(), 1000)] {
+        let copied = view.copy(alloc)?;
+        assert_eq!(rt; view.count(), count);
+        assert!(rt; copied.is_whole() && copied.view().equal(view));
+    }
+    Ok(())
+}
