@@ -1,4 +1,7 @@
 pub mod Steps
+pub mod Weights
 pub mod Replies
 pub mod Queries
 pub mod Leaves
+pub mod Known
+pub mod Typed

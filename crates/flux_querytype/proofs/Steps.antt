@@ -53,3 +53,10 @@ steps-body defs t u x good e b limits =
     let n = rank_of defs in
     let fewer : most n u ≤ n x = most-below n (n x) u (λ y s. rank-falls defs good x y (u, b, s)) in
     subst P (sym e) (omega (arith, scaled (most n u) (n x) fewer, limits.nodes, fewer))
+
+-- fewer than 2^49 steps
+pub steps-bound : (defs : Definitions) (t : Ty) → length defs < 4294967296 → IsWithinLimits t → steps defs t < 562949953421312
+steps-bound defs t few limits =
+    let n = rank_of defs in
+    let few_names : most n t ≤ length defs + 1 = most-below n (length defs + 1) t (λ y s. omega (arith, rank-bound defs y)) in
+    omega (arith, scaled (most n t) (length defs + 1) few_names, limits.nodes)

@@ -6,4 +6,7 @@ mod filter;
 mod leaf;
 mod measured;
 mod parts;
+mod query;
+mod query_type;
 
+pub use query_type::type_query;

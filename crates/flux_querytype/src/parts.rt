@@ -12,6 +12,7 @@ use flux_types::Ty;
 use std::alloc::Global;
 
 const MOST_NODES: u32 = 65536;
+
 const MOST_LEVELS: u32 = 500;
 
 pub(crate) fn nothing() -> Measured
@@ -85,11 +86,7 @@ pub(crate) fn either(
     Ok(Measured { ty, nodes, levels })
 }
 
-pub(crate) fn repeated(
-    alloc: Global,
-    place: u32,
-    inner: Measured,
-) -> Result<Measured, KindFault>
+pub(crate) fn repeated(alloc: Global, place: u32, inner: Measured) -> Result<Measured, KindFault>
     ensures { IsConclusion place (star (ty_of inner.ty)) result }
 {
     let nodes = inner.nodes + 1;
