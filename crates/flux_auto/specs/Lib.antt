@@ -5,3 +5,4 @@ pub mod Built
 pub mod Marking
 pub mod Shown
 pub mod Folding
+pub mod Witness
