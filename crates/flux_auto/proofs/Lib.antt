@@ -12,3 +12,4 @@ pub mod Adding
 pub mod Folding
 pub mod Recipes
 pub mod Building
+pub mod TakeLaws

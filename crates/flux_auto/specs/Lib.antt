@@ -6,3 +6,4 @@ pub mod Marking
 pub mod Shown
 pub mod Folding
 pub mod Witness
+pub mod TakesLaw

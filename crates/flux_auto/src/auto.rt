@@ -68,6 +68,7 @@ impl Model for Auto {
 }
 
 impl Auto {
+    ghost use Rattle.flux_auto.specs.TakesLaw.{TakesByEdges};
     ghost use Rattle.flux_auto.specs.Automaton.{IsSomeMember, TakesMembers, KeepsStates, EdgesInside};
 
     /// An automaton of the definitions, to which no type was added. It keeps copies of them.
@@ -133,6 +134,7 @@ impl Auto {
     /// How many states there are: they are the numbers below it.
     pub fn states(&self) -> u64
         ensures count { result ≡ length self.now.states }
+        ensures law { TakesByEdges self.now.states }
         ensures edges { EdgesInside self.now.states }
     {
         self.table.rows.len() as u64
