@@ -10,3 +10,6 @@ pub mod Making
 pub mod Meaning
 pub mod Adding
 pub mod Folding
+pub mod Recipes
+pub mod Building
+pub mod TakeLaws

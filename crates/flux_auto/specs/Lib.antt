@@ -5,3 +5,5 @@ pub mod Built
 pub mod Marking
 pub mod Shown
 pub mod Folding
+pub mod Witness
+pub mod TakesLaw

@@ -11,7 +11,8 @@ use crate::make::{begin, extend_or_stay};
 use crate::names::empty_names;
 use crate::run::{set_of, takes};
 use crate::table::Table;
-use flux_forest::View;
+use crate::witness::some_of;
+use flux_forest::{Forest, View};
 use flux_types::{Defs, Ty, copy_of};
 use std::alloc::{AllocError, Global};
 use std::marker::Model;
@@ -67,7 +68,8 @@ impl Model for Auto {
 }
 
 impl Auto {
-    ghost use Rattle.flux_auto.specs.Automaton.{TakesMembers, KeepsStates, EdgesInside};
+    ghost use Rattle.flux_auto.specs.TakesLaw.{TakesByEdges};
+    ghost use Rattle.flux_auto.specs.Automaton.{IsSomeMember, TakesMembers, KeepsStates, EdgesInside};
 
     /// An automaton of the definitions, to which no type was added. It keeps copies of them.
     pub fn new(alloc: Global, defs: &Defs) -> Result<Auto, AllocError>
@@ -119,9 +121,20 @@ impl Auto {
         Ok(takes(&set, self.added[start.0].state))
     }
 
+    /// A member of a type that was added, if it has one. Where names double what they stand for
+    /// at each step, as `X=a[Y],a[Y]` and `Y=b[Z],b[Z]`, so do the members, and memory is wanting.
+    pub fn some(&self, start: Start) -> Result<Option<Forest>, AllocError>
+        requires { start < length self.now.types }
+        ensures { IfOk result (λ found. IfSome (slice_get self.now.types start) (λ t. IsSomeMember self.now.definitions t found)) }
+    {
+        let alloc = *self.added.allocator();
+        some_of(alloc, self.table.rows.as_slice(), self.added[start.0].state)
+    }
+
     /// How many states there are: they are the numbers below it.
     pub fn states(&self) -> u64
         ensures count { result ≡ length self.now.states }
+        ensures law { TakesByEdges self.now.states }
         ensures edges { EdgesInside self.now.states }
     {
         self.table.rows.len() as u64

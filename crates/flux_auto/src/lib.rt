@@ -10,6 +10,7 @@ mod make;
 mod names;
 mod run;
 mod table;
+mod witness;
 
 pub use auto::{Auto, Start};
 pub use edge::Edge;
