@@ -15,7 +15,8 @@ use Rattle.flux_doctext.specs.declared.reader.State.TheVariants.{Content, Tree, 
 use Rattle.flux_doctext.specs.Spells.{Spelled, whole, some, Spells, IsViable}
 use Rattle.flux_doctext.specs.Labels.{learnt}
 use Rattle.flux_doctext.specs.Documents.{IsDocument, IsNoDocument}
-use Rattle.flux_doctext.specs.Reading.{Shape, content, next, name, label, opened, closed, string, behind, Event, push, truth_of, step, string_step, end_named, end_step, PlainDraft, draft_after, names_after, and_fits, end_fits, fits}
+use Rattle.flux_doctext.specs.Reading.{Shape, content, next, name, label, opened, closed, string, behind, Event, push, truth_of, step, string_step, end_named, end_step, PlainDraft, draft_after, names_after, end_fits}
+use Rattle.flux_doctext.proofs.Runs.{and_fits, fits}
 use Rattle.flux_doctext.specs.Steps.{shape_of, IsSound, IsTaken, IsEnded, Passes}
 use Rattle.flux_doctext.proofs.ReadLaws.{spelled_fits, depth-draft_after}
 use Rattle.flux_doctext.proofs.SpelledLaws.{no_space}

@@ -6,6 +6,7 @@ pub mod LabelLaws
 mod Levels
 pub mod Literals
 pub mod ReadLaws
+pub mod Runs
 pub mod Signs
 pub mod SpelledLaws
 pub mod StepLaws

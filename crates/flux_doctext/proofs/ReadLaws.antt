@@ -19,7 +19,8 @@ use Rattle.flux_trees.proofs.DraftLaws.{depth-add, depth-begin, depth-end, add-n
 use Rattle.flux_doctext.specs.declared.sign.Sign.{Sign}
 use Rattle.flux_doctext.specs.declared.sign.Sign.TheVariants.{Space, Letter, Digit, Quote, Comma, LeftBracket, RightBracket, LeftParen, RightParen, Other}
 use Rattle.flux_doctext.specs.Spells.{is_space, IsSpace, Part, whole, inside, trees, tree, Spelled, none, some, nothing, something, last, more, element, atom}
-use Rattle.flux_doctext.specs.Reading.{sign_of, Shape, content, next, name, label, opened, closed, string, behind, Event, learn, enter, push, leave, Step, told, close_step, content_step, tree_step, behind_step, label_step, closed_step, opened_step, named_step, name_step, string_step, truth_of, step, end_named, end_step, number_of, PlainDraft, draft_after, depth_after, and_fits, end_fits, fits, and_read, end_read, read}
+use Rattle.flux_doctext.specs.Reading.{sign_of, Shape, content, next, name, label, opened, closed, string, behind, Event, learn, enter, push, leave, Step, told, close_step, content_step, tree_step, behind_step, label_step, closed_step, opened_step, named_step, name_step, string_step, truth_of, step, end_named, end_step, number_of, PlainDraft, draft_after, end_fits}
+use Rattle.flux_doctext.proofs.Runs.{depth_after, and_fits, fits, and_read, end_read, read}
 use Rattle.flux_atom.proofs.TextLaws.{read_items}
 use Rattle.flux_doctext.proofs.TextLaws.{EndsTrees}
 use Rattle.flux_doctext.proofs.Signs.{space_sign, letter_sign, named_sign, not_named, spaces_end, IsNamed}

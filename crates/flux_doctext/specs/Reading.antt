@@ -1,5 +1,5 @@
 -- A reader of documents, byte by byte. `Spells` is what it follows.
-use Rattle.std.specs.Prelude.{ℕ, ◌-◌, Bool, true, false, ◌==◌, List, [], ◌∷◌, ◌++◌, Option, Some, None, codes, bytes_eq, if◌then◌else◌}
+use Rattle.std.specs.Prelude.{ℕ, Bool, true, false, ◌==◌, List, [], ◌∷◌, ◌++◌, Option, Some, None, codes, bytes_eq, if◌then◌else◌}
 use Rattle.std.proofs.Common.{zero, suc}
 use Rattle.flux_atom.specs.declared.atom.Atom.{Atom}
 use Rattle.flux_atom.specs.declared.atom.Atom.TheVariants.{Bool as Truth, Text}
@@ -7,7 +7,7 @@ use Rattle.flux_atom.specs.Names.{begins_name, continues_name, with_text}
 use Rattle.flux_atom.specs.Literal.{quote}
 use Rattle.flux_atom.specs.TextSteps.{TextStep, on, closes, misfits, TextRead, text_step, no_text}
 use Rattle.flux_trees.specs.Hedge.{nil, leaf}
-use Rattle.flux_trees.specs.Draft.{Draft, depth, add, begin, end}
+use Rattle.flux_trees.specs.Draft.{Draft, add, begin, end}
 use Rattle.flux_doctext.specs.declared.sign.Sign.{Sign}
 use Rattle.flux_doctext.specs.declared.sign.Sign.TheVariants.{Space, Comma, LeftBracket, RightBracket, LeftParen, RightParen, Quote, Letter, Digit, Other}
 use Rattle.flux_doctext.specs.Spells.{is_space}
@@ -59,6 +59,7 @@ abbrev pub told : Event → Step → Step
 told e None = None
 told e (Some s) = Some (s.0, e ∷ s.1)
 
+-- where a tree is awaited, or a forest: white space leads nowhere
 abbrev pub tree_step : Shape → ℕ → Sign → Step
 tree_step stay b Space = Some (stay, [])
 tree_step stay b Quote = Some (string no_text, [])
@@ -70,27 +71,32 @@ abbrev pub close_step : ℕ → Step
 close_step zero = None
 close_step (suc n) = Some (behind, leave ∷ [])
 
+-- at the beginning of a forest, or of an element
 abbrev pub content_step : ℕ → ℕ → Sign → Step
 content_step n b RightBracket = close_step n
 content_step n b LeftParen = Some (opened, [])
 content_step n b s = tree_step content b s
 
+-- behind `(`
 abbrev pub opened_step : Sign → Step
 opened_step Space = Some (opened, [])
 opened_step RightParen = Some (closed, [])
 opened_step _ = None
 
+-- behind `()`
 abbrev pub closed_step : ℕ → Sign → Step
 closed_step n Space = Some (closed, [])
 closed_step n RightBracket = close_step n
 closed_step n _ = None
 
+-- behind a tree
 abbrev pub behind_step : ℕ → Sign → Step
 behind_step n Space = Some (behind, [])
 behind_step n Comma = Some (next, [])
 behind_step n RightBracket = close_step n
 behind_step n _ = None
 
+-- behind a label
 abbrev pub label_step : List ℕ → Sign → Step
 label_step text Space = Some (label text, [])
 label_step text LeftBracket = Some (content, enter text ∷ [])
@@ -107,11 +113,13 @@ abbrev pub named_step : List ℕ → Option Atom → ℕ → Sign → Step
 named_step text (Some atom) n s = told (push atom) (behind_step n s)
 named_step text None n s = told (learn text) (label_step text s)
 
+-- in a name, which is taken as long as possible
 abbrev pub name_step : List ℕ → ℕ → ℕ → Sign → Step
 name_step text n b Letter = Some (name (text ++ b ∷ []), [])
 name_step text n b Digit = Some (name (text ++ b ∷ []), [])
 name_step text n b s = named_step text (truth_of text) n s
 
+-- in a string
 abbrev pub string_step : TextRead → TextStep → Step
 string_step r (on state added) = Some (string (state, r.1 ++ added), [])
 string_step r closes = Some (behind, push (Text r.1) ∷ [])
@@ -145,6 +153,7 @@ abbrev pub number_of : List (List ℕ) → List ℕ → ℕ
 number_of [] text = 0
 number_of (n ∷ names) text = if bytes_eq text n then 0 else suc (number_of names text)
 
+-- a plain forest that is being written
 abbrev pub PlainDraft : Type 0
 PlainDraft = Draft (Unit {0})
 
@@ -162,35 +171,7 @@ names_after [] names = names
 names_after (learn text ∷ es) names = names_after es (with_text names text)
 names_after (_ ∷ es) names = names_after es names
 
--- how many elements are open then
-abbrev pub depth_after : List Event → ℕ → ℕ
-depth_after [] n = n
-depth_after (enter text ∷ es) n = depth_after es (suc n)
-depth_after (leave ∷ es) n = depth_after es (n - 1)
-depth_after (_ ∷ es) n = depth_after es n
-
--- whether a text may go on so, and end
-abbrev pub and_fits : Step → ℕ → (Shape → ℕ → Bool) → Bool
-and_fits None n go = false
-and_fits (Some s) n go = go s.0 (depth_after s.1 n)
-
+-- whether a text may end there, where so many elements are open
 abbrev pub end_fits : Option (List Event) → ℕ → Bool
 end_fits None n = false
 end_fits (Some es) n = n == 0
-
-abbrev pub fits : Shape → ℕ → List ℕ → Bool
-fits s n [] = end_fits (end_step s) n
-fits s n (b ∷ bs) = and_fits (step s n b) n (λ t m. fits t m bs)
-
--- the forest that a text gives so, over a table that has its labels
-abbrev pub and_read : List (List ℕ) → Step → PlainDraft → (Shape → PlainDraft → Option PlainDraft) → Option PlainDraft
-and_read names None d go = None
-and_read names (Some s) d go = go s.0 (draft_after names s.1 d)
-
-abbrev pub end_read : List (List ℕ) → Option (List Event) → PlainDraft → Option PlainDraft
-end_read names None d = None
-end_read names (Some es) d = Some (draft_after names es d)
-
-abbrev pub read : List (List ℕ) → Shape → PlainDraft → List ℕ → Option PlainDraft
-read names s d [] = end_read names (end_step s) d
-read names s d (b ∷ bs) = and_read names (step s (depth d) b) d (λ t e. read names t e bs)

@@ -16,6 +16,7 @@ pub enum DocFault {
     /// The bytes spell no forest. The place is the length of their longest beginning that more
     /// bytes could make spell one.
     Text { place: u32 },
+    /// There is not enough memory, whatever the bytes are.
     Memory(AllocError),
 }
 
