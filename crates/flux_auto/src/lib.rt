@@ -14,3 +14,6 @@ mod witness;
 
 pub use auto::{Auto, Start};
 pub use edge::Edge;
+
+#[cfg(test)]
+mod tests;

@@ -1,0 +1,381 @@
+// What no clause says: that calls succeed, and answers worked out by hand.
+ghost use Rattle.std.specs.Prelude.{◌≡◌, ◌<◌, ◌↔◌, IsTrue, length, IfOk};
+ghost use Rattle.flux_schema.specs.Ty.{NamesBelow};
+ghost use Rattle.flux_types.specs.Read.{ty_of};
+
+use crate::{Auto, Edge};
+use flux_atom::{Atom, AtomKind, Boxed, Name, Names, Word, is_name};
+use flux_forest::Forest;
+use flux_types::{Defs, Draft, Ty, height, size};
+use std::alloc::{AllocError, Global};
+use std::process::Abort;
+use std::test::Fail;
+
+// Whether a type names only indices below a count.
+fn is_known(ty: &Ty, count: u32) -> bool
+    ensures { IsTrue result ↔ NamesBelow count (ty_of ty.now) }
+{
+    match ty {
+        Ty::Empty | Ty::Atom(_) => true,
+        Ty::Elem(_, inner) | Ty::Star(inner) => is_known(inner.get(), count),
+        Ty::Seq(left, right) | Ty::Alt(left, right) => {
+            is_known(left.get(), count) && is_known(right.get(), count)
+        }
+        Ty::Named(index) => *index < count,
+    }
+}
+
+// Types in prefix notation.
+#[derive(Clone, Copy)]
+enum Sign {
+    Nothing,
+    Kind(AtomKind),
+    Named(u32),
+    Element(Name),
+    Star,
+    Seq,
+    Alt,
+}
+
+use Sign::{Alt, Element, Kind, Named, Nothing, Seq, Star};
+
+fn one(alloc: Global, sign: Sign, parts: &mut Vec<Ty>) -> Result<Ty, AllocError> {
+    let first = parts.pop().unwrap_or(Ty::Empty);
+    match sign {
+        Element(name) => Ok(Ty::Elem(name, Boxed::new(alloc, first)?)),
+        Star => Ok(Ty::Star(Boxed::new(alloc, first)?)),
+        _ => Ok(first),
+    }
+}
+
+fn two(alloc: Global, sign: Sign, parts: &mut Vec<Ty>) -> Result<Ty, AllocError> {
+    let left = Boxed::new(alloc, parts.pop().unwrap_or(Ty::Empty))?;
+    let right = Boxed::new(alloc, parts.pop().unwrap_or(Ty::Empty))?;
+    match sign {
+        Seq => Ok(Ty::Seq(left, right)),
+        _ => Ok(Ty::Alt(left, right)),
+    }
+}
+
+fn ty(alloc: Global, signs: &[Sign]) -> Result<Ty, AllocError> {
+    let mut parts = Vec::new(alloc);
+    for sign in signs.iter().rev() {
+        let made = match *sign {
+            Nothing => Ty::Empty,
+            Kind(kind) => Ty::Atom(kind),
+            Named(index) => Ty::Named(index),
+            Element(_) | Star => one(alloc, *sign, &mut parts)?,
+            Seq | Alt => two(alloc, *sign, &mut parts)?,
+        };
+        parts.push(made)?;
+    }
+    Ok(parts.pop().unwrap_or(Ty::Empty))
+}
+
+// What a forest is built of.
+#[derive(Clone, Copy)]
+enum Step<'a> {
+    Begin(Name),
+    End,
+    Truth(bool),
+    Text(&'a str),
+}
+
+use Step::{Begin, End, Text, Truth};
+
+fn built(rt: &impl Abort, alloc: Global, steps: &[Step<'_>]) -> Result<Forest, Fail> {
+    let mut forest = Forest::new(alloc);
+    for step in steps {
+        match step {
+            Begin(name) => forest.begin_element(*name)?,
+            End => {
+                assert!(rt; !forest.is_whole());
+                forest.end_element();
+            }
+            Truth(truth) => forest.push_atom(Atom::Bool(*truth))?,
+            Text(text) => forest.push_atom(Atom::Text(Word::of(alloc, text)?))?,
+        }
+    }
+    Ok(forest)
+}
+
+fn label(rt: &impl Abort, names: &mut Names, text: &str) -> Result<Name, Fail> {
+    assert!(rt; is_name(text) && names.len() < 100);
+    Ok(names.intern(text)?)
+}
+
+#[tactic(auto, using(flux_types::proofs::KeptLaws::counts))]
+fn set(rt: &impl Abort, draft: &mut Draft, index: u32, body: Ty) -> Result<(), AllocError>
+    requires { length draft.old ≡ 2 }
+    ensures { length draft.new ≡ 2 }
+{
+    assert!(rt; index < 2 && is_known(&body, 2));
+    assert!(rt; size(&body) <= 65_536 && height(&body) <= 500);
+    draft.define(index, body)
+}
+
+#[tactic(auto, using(flux_types::proofs::KeptLaws::counts))]
+fn two_names(alloc: Global, first: Name, second: Name) -> Result<Draft, Fail>
+    ensures { IfOk result (λ draft. length draft ≡ 2) }
+{
+    let mut draft = Draft::new(alloc);
+    draft.declare(first)?;
+    draft.declare(second)?;
+    Ok(draft)
+}
+
+// Two labels, and the definitions A = a[A*] and X = x[X].
+#[derive(Drop)]
+struct Scene {
+    a: Name,
+    x: Name,
+    defs: Defs,
+}
+
+fn make_scene(rt: &impl Abort, alloc: Global) -> Result<Scene, Fail> {
+    let mut names = Names::new(alloc);
+    let a = label(rt, &mut names, "a")?;
+    let x = label(rt, &mut names, "x")?;
+    let mut draft = two_names(alloc, a, x)?;
+    set(rt, &mut draft, 0, ty(alloc, &[Element(a), Star, Named(0)])?)?;
+    set(rt, &mut draft, 1, ty(alloc, &[Element(x), Named(1)])?)?;
+    let defs = draft.close()?;
+    Ok(Scene { a, x, defs })
+}
+
+// Whether a forest is a member of a type, by an automaton of its own.
+fn is_member(
+    rt: &impl Abort,
+    alloc: Global,
+    defs: &Defs,
+    ty: &Ty,
+    forest: &Forest,
+) -> Result<bool, Fail> {
+    assert!(rt; is_known(ty, defs.len()));
+    assert!(rt; forest.is_whole());
+    let mut auto = Auto::new(alloc, defs)?;
+    let start = auto.add(ty)?;
+    Ok(auto.member(start, forest.view())?)
+}
+
+fn assert_member(
+    rt: &impl Abort,
+    alloc: Global,
+    defs: &Defs,
+    signs: &[Sign],
+    steps: &[Step<'_>],
+    want: bool,
+) -> Result<(), Fail> {
+    let ty = ty(alloc, signs)?;
+    let forest = built(rt, alloc, steps)?;
+    assert_eq!(rt; is_member(rt, alloc, defs, &ty, &forest)?, want);
+    Ok(())
+}
+
+// Asserts whether a type has a member, which is then one.
+fn assert_some(
+    rt: &impl Abort,
+    alloc: Global,
+    defs: &Defs,
+    signs: &[Sign],
+    want: bool,
+) -> Result<(), Fail> {
+    let ty = ty(alloc, signs)?;
+    assert!(rt; is_known(&ty, defs.len()));
+    let mut auto = Auto::new(alloc, defs)?;
+    let start = auto.add(&ty)?;
+    match auto.some(start)? {
+        None => assert!(rt; !want),
+        Some(forest) => {
+            assert!(rt; want && forest.is_whole());
+            assert!(rt; auto.member(start, forest.view())?);
+        }
+    }
+    Ok(())
+}
+
+const TEXT: Sign = Kind(AtomKind::Text);
+
+const TRUTH: Sign = Kind(AtomKind::Bool);
+
+#[test]
+fn order_counts(rt: HostRuntime) -> Result<(), Fail> {
+    let alloc = rt.alloc();
+    let mut names = Names::new(alloc);
+    let lib = label(&rt, &mut names, "lib")?;
+    let book = label(&rt, &mut names, "book")?;
+    let cd = label(&rt, &mut names, "cd")?;
+    let defs = Draft::new(alloc).close()?;
+    // lib[book[string]*,cd[string]]
+    let ty = [
+        Element(lib),
+        Seq,
+        Star,
+        Element(book),
+        TEXT,
+        Element(cd),
+        TEXT,
+    ];
+    let good = [
+        Begin(lib),
+        Begin(book),
+        Text("A"),
+        End,
+        Begin(cd),
+        Text("B"),
+        End,
+        End,
+    ];
+    assert_member(&rt, alloc, &defs, &ty, &good, true)?;
+    let bad = [
+        Begin(lib),
+        Begin(cd),
+        Text("B"),
+        End,
+        Begin(book),
+        Text("A"),
+        End,
+        End,
+    ];
+    assert_member(&rt, alloc, &defs, &ty, &bad, false)
+}
+
+#[test]
+fn atoms_beside_elements(rt: HostRuntime) -> Result<(), Fail> {
+    let alloc = rt.alloc();
+    let at = make_scene(&rt, alloc)?;
+    // (string|a[]),bool
+    let ty = [Seq, Alt, TEXT, Element(at.a), Nothing, TRUTH];
+    assert_member(
+        &rt,
+        alloc,
+        &at.defs,
+        &ty,
+        &[Begin(at.a), End, Truth(true)],
+        true,
+    )?;
+    assert_member(&rt, alloc, &at.defs, &ty, &[Text("a"), Truth(false)], true)?;
+    assert_member(
+        &rt,
+        alloc,
+        &at.defs,
+        &ty,
+        &[Truth(true), Truth(false)],
+        false,
+    )
+}
+
+#[test]
+fn types_with_members(rt: HostRuntime) -> Result<(), Fail> {
+    let alloc = rt.alloc();
+    let at = make_scene(&rt, alloc)?;
+    // a[]*, A and (string|a[]),bool
+    assert_some(&rt, alloc, &at.defs, &[Star, Element(at.a), Nothing], true)?;
+    assert_some(&rt, alloc, &at.defs, &[Named(0)], true)?;
+    let ty = [Seq, Alt, TEXT, Element(at.a), Nothing, TRUTH];
+    assert_some(&rt, alloc, &at.defs, &ty, true)
+}
+
+#[test]
+fn types_without_members(rt: HostRuntime) -> Result<(), Fail> {
+    let alloc = rt.alloc();
+    let at = make_scene(&rt, alloc)?;
+    // X and a[x[X]]
+    assert_some(&rt, alloc, &at.defs, &[Named(1)], false)?;
+    let none = [Element(at.a), Element(at.x), Named(1)];
+    assert_some(&rt, alloc, &at.defs, &none, false)?;
+    // x[]|a[x[X]]
+    let ty = [
+        Alt,
+        Element(at.x),
+        Nothing,
+        Element(at.a),
+        Element(at.x),
+        Named(1),
+    ];
+    assert_some(&rt, alloc, &at.defs, &ty, true)?;
+    assert_member(&rt, alloc, &at.defs, &ty, &[Begin(at.x), End], true)
+}
+
+#[test]
+fn stars_of_stars(rt: HostRuntime) -> Result<(), Fail> {
+    let alloc = rt.alloc();
+    let at = make_scene(&rt, alloc)?;
+    // ((a[]*)*)*
+    let ty = [Star, Star, Star, Element(at.a), Nothing];
+    assert_member(&rt, alloc, &at.defs, &ty, &[], true)?;
+    let three = [Begin(at.a), End, Begin(at.a), End, Begin(at.a), End];
+    assert_member(&rt, alloc, &at.defs, &ty, &three, true)?;
+    let other = [Begin(at.a), End, Begin(at.x), End];
+    assert_member(&rt, alloc, &at.defs, &ty, &other, false)
+}
+
+#[test]
+fn stars_of_nothing(rt: HostRuntime) -> Result<(), Fail> {
+    let alloc = rt.alloc();
+    let at = make_scene(&rt, alloc)?;
+    // ()*
+    assert_member(&rt, alloc, &at.defs, &[Star, Nothing], &[], true)?;
+    assert_member(
+        &rt,
+        alloc,
+        &at.defs,
+        &[Star, Nothing],
+        &[Begin(at.a), End],
+        false,
+    )
+}
+
+fn nested(rt: &impl Abort, alloc: Global, name: Name, levels: u32) -> Result<Forest, Fail> {
+    let mut forest = Forest::new(alloc);
+    for _ in 0..levels {
+        forest.begin_element(name)?;
+    }
+    for _ in 0..levels {
+        assert!(rt; !forest.is_whole());
+        forest.end_element();
+    }
+    Ok(forest)
+}
+
+fn row(rt: &impl Abort, alloc: Global, name: Name, trees: u32) -> Result<Forest, Fail> {
+    let mut forest = Forest::new(alloc);
+    for _ in 0..trees {
+        forest.begin_element(name)?;
+        assert!(rt; !forest.is_whole());
+        forest.end_element();
+    }
+    Ok(forest)
+}
+
+#[test]
+fn great_forests(rt: HostRuntime) -> Result<(), Fail> {
+    let alloc = rt.alloc();
+    let at = make_scene(&rt, alloc)?;
+    let ty = ty(alloc, &[Star, Named(0)])?;
+    let deep = nested(&rt, alloc, at.a, 1_000_000)?;
+    assert!(rt; is_member(&rt, alloc, &at.defs, &ty, &deep)?);
+    let mut wide = row(&rt, alloc, at.a, 100_000)?;
+    assert!(rt; is_member(&rt, alloc, &at.defs, &ty, &wide)?);
+    wide.push_atom(Atom::Bool(true))?;
+    assert!(rt; !is_member(&rt, alloc, &at.defs, &ty, &wide)?);
+    Ok(())
+}
+
+#[test]
+fn starts_stay(rt: HostRuntime) -> Result<(), Fail> {
+    let alloc = rt.alloc();
+    let at = make_scene(&rt, alloc)?;
+    // a[], and later x[string]
+    let first = ty(alloc, &[Element(at.a), Nothing])?;
+    let second = ty(alloc, &[Element(at.x), TEXT])?;
+    assert!(rt; is_known(&first, at.defs.len()) && is_known(&second, at.defs.len()));
+    let mut auto = Auto::new(alloc, &at.defs)?;
+    let start = auto.add(&first)?;
+    let state = auto.state(start);
+    let other = auto.add(&second)?;
+    assert_eq!(rt; auto.state(start), state);
+    assert!(rt; !auto.ends(state) && matches!(auto.edges(state), [Edge::Elem(_, _, _)]));
+    assert!(rt; auto.state(other) < auto.states());
+    Ok(())
+}
