@@ -1,16 +1,13 @@
 -- What is read can be ended.
-use Rattle.std.proofs.Common.{◌≡◌, ℕ, zero, suc, Bool, true, false, List, [], ◌∷◌, ◌++◌, length, slice_get, codes, bytes_eq, Option, Some, None, ◌⊎◌, inl, inr, if◌then◌else◌, refl, sym, ap, subst, ◌∙◌, append_assoc, arith}
-use Rattle.std.proofs.lemmas.Bool.{false≢true}
+use Rattle.std.proofs.Common.{◌≡◌, ℕ, zero, suc, Bool, true, false, List, [], ◌∷◌, ◌++◌, codes, bytes_eq, Option, Some, None, if◌then◌else◌, refl, sym, ap, subst, ◌∙◌, append_assoc, arith}
 use Rattle.std.proofs.lemmas.List.{append-nil}
-use Rattle.std.proofs.lemmas.List.Elements.{All-push}
-use Rattle.std.proofs.lemmas.Map.Keys.{any_passes_from_place}
-use Rattle.std.proofs.lemmas.Slice.Eq.{bytes_eq-Decides}
 use Rattle.std.specs.List.{list_any}
 use Rattle.flux_atom.specs.declared.atom.Atom.{Atom}
 use Rattle.flux_atom.specs.declared.text.TextState.TheVariants.{Between}
 use Rattle.flux_atom.specs.Names.{IsName, IsTable, with_text}
 use Rattle.flux_atom.specs.Literal.{quote}
 use Rattle.flux_atom.specs.TextSteps.{TextRead, no_text, read_text}
+use Rattle.flux_atom.proofs.Tables.{IsTable-push}
 use Rattle.flux_atom.proofs.TextLaws.{read_then, text_can_end}
 use Rattle.flux_trees.specs.Hedge.{Plain, nil, leaf}
 use Rattle.flux_trees.specs.Draft.{done, begun, depth, add, begin, end}
@@ -22,38 +19,12 @@ use Rattle.flux_doctext.proofs.WrittenLaws.{lifted, lifted_end}
 use Rattle.flux_doctext.proofs.StepLaws.{IsRead, begun_more, named_behind, named_label, step_kept}
 
 -- a table that was shown a name is one
-
-slice_get-push : (xs : List (List ℕ)) (x : List ℕ) (i : ℕ) (y : List ℕ) → slice_get (xs ++ x ∷ []) i ≡ Some y → (slice_get xs i ≡ Some y) ⊎ ((i ≡ length xs) × (x ≡ y))
-slice_get-push [] x zero y e = inr (refl, cc)
-slice_get-push [] x (suc i) y e = absurd cc
-slice_get-push (z ∷ xs) x zero y e = inl e
-slice_get-push (z ∷ xs) x (suc i) y e = by (slice_get-push xs x i y e)
-  where
-    by : (slice_get xs i ≡ Some y) ⊎ ((i ≡ length xs) × (x ≡ y)) → (slice_get xs i ≡ Some y) ⊎ ((suc i ≡ suc (length xs)) × (x ≡ y))
-    by (inl p) = inl p
-    by (inr p) = inr (ap suc p.0, p.1)
-
 pub IsTable-with_text : (names : List (List ℕ)) (text : List ℕ) → IsTable names → IsName text → IsTable (with_text names text)
 IsTable-with_text names text table is = by (list_any (bytes_eq text) names) refl
   where
-    pushed : list_any (bytes_eq text) names ≡ false → IsTable (names ++ text ∷ [])
-    pushed absent = record {
-      names = All-push IsName names text table.names is;
-      differ = λ i j t p q. apart i j t (slice_get-push names text i t p) (slice_get-push names text j t q);
-    }
-      where
-        never : (i : ℕ) (t : List ℕ) → slice_get names i ≡ Some t → text ≡ t → ⊥
-        never i t p e = false≢true (sym absent ∙ any_passes_from_place (bytes_eq text) names i t p ((bytes_eq-Decides text t).1 e))
-
-        apart : (i j : ℕ) (t : List ℕ) → (slice_get names i ≡ Some t) ⊎ ((i ≡ length names) × (text ≡ t)) → (slice_get names j ≡ Some t) ⊎ ((j ≡ length names) × (text ≡ t)) → i ≡ j
-        apart i j t (inl p) (inl q) = table.differ i j t p q
-        apart i j t (inl p) (inr q) = absurd (never i t p q.1)
-        apart i j t (inr p) (inl q) = absurd (never j t q p.1)
-        apart i j t (inr p) (inr q) = p.0 ∙ sym q.0
-
     by : (held : Bool) → list_any (bytes_eq text) names ≡ held → IsTable (if held then names else names ++ text ∷ [])
     by true e = table
-    by false e = pushed e
+    by false e = IsTable-push names text table is e
 
 -- what the innermost place says of the token
 

@@ -17,7 +17,7 @@ use Rattle.flux_doctext.specs.Labels.{learnt}
 use Rattle.flux_doctext.proofs.SpelledLaws.{spelled-more}
 use Rattle.flux_doctext.proofs.ReadLaws.{spelled_once}
 use Rattle.flux_doctext.proofs.TextLaws.{slice_get-more, NamesLabel-found}
-use Rattle.flux_atom.proofs.Tables.{IsTable-push}
+use Rattle.flux_doctext.proofs.ViableLaws.{IsTable-with_text}
 use Rattle.flux_top.proofs.Interned.{with_text-grows}
 
 -- the table has each label of a forest that is spelled
@@ -56,13 +56,6 @@ spelled_over names others covers (element s label t content u a is_s is_t is_u i
     let same : name_text names b.0 ≡ name_text others a = ap (λ o. unwrap_or o []) (b.1 ∙ sym at) in
     (elem tt b.0 r.0 nil, element s label t content u b.0 is_s is_t is_u is_label b.1 r.1 e, alike_elem same r.2 alike_nil)
 spelled_over names others covers (atom s literal u x is_s is_u is e) = (leaf tt x nil, atom s literal u x is_s is_u is e, alike_leaf refl alike_nil)
-
-IsTable-with_text : (names : List (List ℕ)) (t : List ℕ) → IsTable names → IsName t → IsTable (with_text names t)
-IsTable-with_text names t table name = by (list_any (bytes_eq t) names) refl
-  where
-    by : (held : Bool) → list_any (bytes_eq t) names ≡ held → IsTable (if held then names else names ++ t ∷ [])
-    by true is = table
-    by false is = IsTable-push names t table name is
 
 -- a table that has a text has it at some place
 place_next : (t u : List ℕ) (names : List (List ℕ)) (same : Bool) → bytes_eq t u ≡ same → ((b : ℕ) × (slice_get names b ≡ Some t)) ⊎ (same ≡ true) → (b : ℕ) × (slice_get (u ∷ names) b ≡ Some t)
