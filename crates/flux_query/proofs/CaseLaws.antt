@@ -1,5 +1,5 @@
 -- That the queries which are tried by hand have values.
-use Rattle.std.proofs.Common.{◌≡◌, Option, Some, None, IsSome, [], ◌∷◌, List, refl}
+use Rattle.std.proofs.Common.{Option, Some, None, IsSome, [], ◌∷◌, List, refl}
 use Rattle.flux_trees.specs.Hedge.{Plain, nil, elem, leaf, join, trees}
 use Rattle.std.specs.Prelude.{ℕ, Bool, true, false}
 use Rattle.flux_atom.specs.declared.atom.Atom.{Atom}
