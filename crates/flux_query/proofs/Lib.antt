@@ -1,3 +1,4 @@
 pub mod EnvLaws
 pub mod TreeLaws
 pub mod ValueLaws
+pub mod CaseLaws

@@ -12,3 +12,6 @@ pub use env::Env;
 pub use evaluate::eval;
 pub use flux_calculus::{Span, Test, Var};
 pub use query::Query;
+
+#[cfg(test)]
+mod tests;
