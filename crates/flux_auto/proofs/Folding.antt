@@ -1,12 +1,10 @@
 -- The profile of a forest, from its last tree to its first.
-use Rattle.std.proofs.Common.{◌≡◌, ◌≢◌, ℕ, zero, suc, ◌+◌, ◌*◌, ◌<◌, ◌≤◌, ◌⊎◌, List, [], ◌∷◌, ◌++◌, Bool, true, false, ◌||◌, length, take, get_or, map, refl, sym, ap, ap₂, subst, ◌∙◌, arith, append_assoc}
-use Rattle.std.specs.List.{list_any}
+use Rattle.std.proofs.Common.{◌≡◌, ℕ, ◌+◌, ◌*◌, ◌<◌, List, [], ◌∷◌, ◌++◌, Bool, length, take, get_or, map, refl, sym, ap, ap₂, subst, ◌∙◌, arith, append_assoc}
 use Rattle.std.proofs.lemmas.List.{map_push, take_more}
-use Rattle.std.proofs.lemmas.List.Folds.{list_any_more}
 use Rattle.flux_atom.specs.declared.atom.Atom.{Atom as Value}
 use Rattle.flux_atom.specs.Atom.{kind_of}
 use Rattle.flux_trees.specs.Hedge.{Plain, nil, elem, leaf, size, trees, first, others, content, IsElement}
-use Rattle.flux_trees.proofs.HedgeLaws.{trees-first, size-first, size_pos}
+use Rattle.flux_trees.proofs.HedgeLaws.{trees-first}
 use Rattle.flux_forest.specs.declared.view.View.{View}
 use Rattle.flux_forest.specs.View.{forest_of}
 use Rattle.flux_auto.specs.declared.table.Row.{Row}
@@ -14,19 +12,7 @@ use Rattle.flux_auto.specs.declared.run.Open.{Open}
 use Rattle.flux_auto.specs.Takes.{State, profile, profile_nil, profile_element, profile_atom}
 use Rattle.flux_auto.specs.Built.{state_of}
 
--- ---- loops over edges and rows
-
-pub any_here : {A : Type 0} (p : A → Bool) (xs : List A) (i : ℕ) (d : A) → i < length xs → p (get_or xs i d) ≡ true → list_any p xs ≡ true
-any_here p [] i d lt e = absurd (omega (arith, lt))
-any_here p (x ∷ xs) zero d lt e = ap (λ b. b || list_any p xs) e
-any_here p (x ∷ xs) (suc i) d lt e = or_right (p x) (list_any p xs) (any_here p xs i d (omega (arith, lt)) e)
-  where
-    or_right : (a b : Bool) → b ≡ true → a || b ≡ true
-    or_right true b e = refl
-    or_right false b e = e
-
-pub any_next : {A : Type 0} (p : A → Bool) (xs : List A) (i : ℕ) (d : A) → i < length xs → list_any p (take i xs) ≡ false → p (get_or xs i d) ≡ false → list_any p (take (i + 1) xs) ≡ false
-any_next p xs i d lt e f = list_any_more p xs i d lt ∙ ap₂ (λ a b. a || b) e f
+-- ---- a loop over rows
 
 pub row_next : {B : Type 0} (f : State → B) (rows : List Row) (i : ℕ) (r : Row) → i < length rows → r ≡ get_or rows i r → map f (map state_of (take (i + 1) rows)) ≡ map f (map state_of (take i rows)) ++ f (state_of r) ∷ []
 row_next f rows i r lt is =

@@ -8,6 +8,7 @@ pub mod Reading
 pub mod Closing
 pub mod Making
 pub mod Meaning
+pub mod ArcLaws
 pub mod Adding
 pub mod Folding
 pub mod Recipes

@@ -7,6 +7,7 @@ ghost use Rattle.flux_forest.specs.View.{forest_of};
 ghost use Rattle.flux_types.specs.Read.{ty_of};
 
 use crate::Edge;
+use crate::arcs::Arcs;
 use crate::make::{begin, extend_or_stay};
 use crate::names::empty_names;
 use crate::run::{set_of, takes};
@@ -109,15 +110,19 @@ impl Auto {
         Ok(start)
     }
 
-    /// Whether a forest is a member of a type that was added. It takes time in step with the nodes
-    /// of the forest and the edges of the automaton, and no more memory than the states take for
-    /// each element that is open at once. It doesn't recurse.
+    /// Whether a forest is a member of a type that was added. First it sorts the edges by what they
+    /// go by, which takes the time of going over them and the names up to the last label once. Then
+    /// each node takes the time of filling a truth value for each state, and of going over the edges
+    /// of its label alone, or of its kind of atom. The memory is that of the edges, and a truth value
+    /// for each state and each element that is open at once. It doesn't recurse.
     pub fn member(&self, start: Start, view: View<'_>) -> Result<bool, AllocError>
         requires { start < length self.now.types }
         ensures { IfOk result (λ found. IfSome (slice_get self.now.types start) (λ t. IsTrue found ↔ Member self.now.definitions (forest_of view.entry) t)) }
     {
         let alloc = *self.added.allocator();
-        let set = set_of(alloc, self.table.rows.as_slice(), view)?;
+        let rows = self.table.rows.as_slice();
+        let arcs = Arcs::of(alloc, rows)?;
+        let set = set_of(alloc, rows, &arcs, view)?;
         Ok(takes(&set, self.added[start.0].state))
     }
 

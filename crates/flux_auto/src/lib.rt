@@ -1,6 +1,7 @@
 //! An automaton of types: which forests are members, and a member of each type that has one.
 #![tactic(auto)]
 
+mod arcs;
 mod auto;
 mod close;
 mod content;

@@ -1,12 +1,12 @@
 // Which states take a forest.
-ghost use Rattle.std.specs.Prelude.{◌≡◌, length, IfOk, map};
-ghost use Rattle.std.specs.List.{list_any};
+ghost use Rattle.std.specs.Prelude.{◌≡◌, ℕ, length, IfOk, map, set, true};
 ghost use Rattle.flux_forest.specs.View.{forest_of};
-ghost use Rattle.flux_auto.specs.Takes.{profile, profile_nil, profile_element, profile_atom, has, goes_by_element, goes_by_atom};
+ghost use Rattle.flux_auto.specs.Takes.{profile, profile_nil, profile_element, profile_atom, has};
+ghost use Rattle.flux_auto.specs.Arcs.{IsIndex, mark_by_arc, mark_by_leap};
 ghost use Rattle.flux_auto.specs.Built.{state_of};
 ghost use Rattle.flux_auto.specs.Folding.{AreTrees};
 
-use crate::Edge;
+use crate::arcs::{Arc, Arcs, Leap};
 use crate::table::Row;
 use flux_atom::{AtomKind, Name, kind};
 use flux_forest::{First, View};
@@ -35,23 +35,28 @@ pub(crate) fn takes(set: &[bool], state: u64) -> bool
     }
 }
 
-fn goes_by_element(edge: &Edge, label: Name, content: &[bool], rest: &[bool]) -> bool
-    ensures { result ≡ goes_by_element label content.now rest.now edge.now }
+// Marks a state; nothing where it isn't there.
+fn mark(marks: &mut Vec<bool>, state: u64)
+    ensures { marks.new.items ≡ set marks.old.items state true }
 {
-    match edge {
-        Edge::Atom(_, _) => false,
-        Edge::Elem(name, inner, next) => {
-            *name == label && (takes(content, *inner) && takes(rest, *next))
-        }
+    if let Some(marked) = marks.get_mut(state as usize) {
+        *marked = true;
     }
 }
 
-fn goes_by_atom(edge: &Edge, kind: AtomKind, rest: &[bool]) -> bool
-    ensures { result ≡ goes_by_atom kind rest.now edge.now }
+fn mark_by_arc(marks: &mut Vec<bool>, arc: &Arc, content: &[bool], rest: &[bool])
+    ensures { marks.new.items ≡ mark_by_arc content.now rest.now marks.old.items arc.now }
 {
-    match edge {
-        Edge::Atom(own, next) => *own == kind && takes(rest, *next),
-        Edge::Elem(_, _, _) => false,
+    if takes(content, arc.content) && takes(rest, arc.next) {
+        mark(marks, arc.source);
+    }
+}
+
+fn mark_by_leap(marks: &mut Vec<bool>, leap: &Leap, rest: &[bool])
+    ensures { marks.new.items ≡ mark_by_leap rest.now marks.old.items leap.now }
+{
+    if takes(rest, leap.next) {
+        mark(marks, leap.source);
     }
 }
 
@@ -65,40 +70,21 @@ fn set_of_nil(alloc: Global, rows: &[Row]) -> Result<Vec<bool>, AllocError>
     Ok(set)
 }
 
-fn any_by_element(edges: &[Edge], label: Name, content: &[bool], rest: &[bool]) -> bool
-    ensures { result ≡ list_any (goes_by_element label content.now rest.now) edges.now }
-{
-    for edge in edges {
-        if goes_by_element(edge, label, content, rest) {
-            return true;
-        }
-    }
-    false
-}
-
-fn any_by_atom(edges: &[Edge], kind: AtomKind, rest: &[bool]) -> bool
-    ensures { result ≡ list_any (goes_by_atom kind rest.now) edges.now }
-{
-    for edge in edges {
-        if goes_by_atom(edge, kind, rest) {
-            return true;
-        }
-    }
-    false
-}
-
 fn set_of_element(
     alloc: Global,
     rows: &[Row],
+    arcs: &Arcs,
     label: Name,
     content: &[bool],
     rest: &[bool],
 ) -> Result<Vec<bool>, AllocError>
+    requires { IsIndex rows.now arcs.now }
     ensures { IfOk result (λ set. set.items ≡ profile_element (map state_of rows.now) label content.now rest.now) }
 {
-    let mut set = Vec::new(alloc);
-    for row in rows {
-        set.push(any_by_element(row.edges.as_slice(), label, content, rest))?;
+    let mut set = Vec::from_elem(alloc, false, rows.len())?;
+    let labelled = arcs.for_label(label);
+    for arc in labelled {
+        mark_by_arc(&mut set, arc, content, rest);
     }
     Ok(set)
 }
@@ -106,14 +92,17 @@ fn set_of_element(
 fn set_of_atom(
     alloc: Global,
     rows: &[Row],
+    arcs: &Arcs,
     kind: AtomKind,
     rest: &[bool],
 ) -> Result<Vec<bool>, AllocError>
+    requires { IsIndex rows.now arcs.now }
     ensures { IfOk result (λ set. set.items ≡ profile_atom (map state_of rows.now) kind rest.now) }
 {
-    let mut set = Vec::new(alloc);
-    for row in rows {
-        set.push(any_by_atom(row.edges.as_slice(), kind, rest))?;
+    let mut set = Vec::from_elem(alloc, false, rows.len())?;
+    let leaps = arcs.for_kind(kind);
+    for leap in leaps {
+        mark_by_leap(&mut set, leap, rest);
     }
     Ok(set)
 }
@@ -128,29 +117,36 @@ pub(crate) struct Open<'a> {
 }
 
 // The trees are gone over from the last to the first, at each level.
-pub(crate) fn set_of(alloc: Global, rows: &[Row], run: View<'_>) -> Result<Vec<bool>, AllocError>
+pub(crate) fn set_of(
+    alloc: Global,
+    rows: &[Row],
+    arcs: &Arcs,
+    run: View<'_>,
+) -> Result<Vec<bool>, AllocError>
+    requires { IsIndex rows.now arcs.now }
     ensures { IfOk result (λ set. set.items ≡ profile (map state_of rows.now) (forest_of run.entry)) }
 {
     let mut outer: Vec<Open<'_>> = Vec::new(alloc);
     let mut trees = trees_of(alloc, run)?;
-    let mut rest = set_of_nil(alloc, rows)?;
+    let ends = set_of_nil(alloc, rows)?;
+    let mut rest = Vec::from_slice(alloc, ends.as_slice())?;
     loop {
         match trees.pop() {
             Some(tree) => match tree.first() {
                 First::Nothing => unreachable!(),
                 First::Atom(atom) => {
-                    rest = set_of_atom(alloc, rows, kind(atom), &rest)?;
+                    rest = set_of_atom(alloc, rows, arcs, kind(atom), &rest)?;
                 }
                 First::Elem(label) => {
                     let content = trees_of(alloc, tree.content())?;
                     outer.push(Open { label, trees, rest })?;
                     trees = content;
-                    rest = set_of_nil(alloc, rows)?;
+                    rest = Vec::from_slice(alloc, ends.as_slice())?;
                 }
             },
             None => match outer.pop() {
                 Some(open) => {
-                    rest = set_of_element(alloc, rows, open.label, &rest, &open.rest)?;
+                    rest = set_of_element(alloc, rows, arcs, open.label, &rest, &open.rest)?;
                     trees = open.trees;
                 }
                 None => return Ok(rest),

@@ -1,14 +1,14 @@
-use Rattle.std.proofs.Common.{◌≡◌, ◌∙◌, refl, ap, ap₂, sym, map, List, [], Bool}
+use Rattle.std.proofs.Common.{◌∙◌, refl, ap, ap₂, sym, map, List, Bool}
 use Rattle.flux_atom.specs.declared.atom.AtomKind.{AtomKind}
 use Rattle.flux_forest.specs.View.{forest_of}
 use Rattle.flux_trees.specs.Hedge.{trees}
 use Rattle.flux_auto.specs.Takes.{profile_atom, profile_element}
 use Rattle.flux_auto.specs.Built.{state_of}
-use Rattle.flux_auto.proofs.Folding.{IsTree, forests, none_items, one_tree, tree_of, none_nil, walks_begin, walks_atom, walks_open, walks_close, work_atom, work_open, work_close}
+use Rattle.flux_auto.proofs.Folding.{none_items, one_tree, tree_of, none_nil, walks_begin, walks_atom, walks_open, walks_close, work_atom, work_open, work_close}
 use Rattle.flux_auto.proofs.run.set_of.Goals as goal
 
 pub loop-tree-init : goal.loop-tree-init
-loop-tree-init c = walks_begin (map state_of c.args.rows.now) c.new-outer.result.items c.in_ok-trees.trees.items c.in_ok-rest.rest.items (forest_of c.args.run) c.new-outer.ensures.items c.in_ok-trees.ensures c.in_ok-rest.ensures
+loop-tree-init c = walks_begin (map state_of c.args.rows.now) c.new-outer.result.items c.in_ok-trees.trees.items c.in_ok-rest.rest.items (forest_of c.args.run) c.new-outer.ensures.items c.in_ok-trees.ensures (c.in_ok-rest.ensures.items ∙ c.as_slice.ensures.value ∙ c.in_ok-ends.ensures)
 
 pub unreachable-requires : goal.unreachable-requires
 unreachable-requires c =
@@ -35,7 +35,8 @@ loop-tree-smaller-in-Elem c =
 pub loop-tree-preserved-in-Elem : goal.loop-tree-preserved-in-Elem
 loop-tree-preserved-in-Elem c =
     walks_open (map state_of c.args.rows.now) c.loop-tree.outer.items c.push.new.self.items (record { label = c.in-Elem.label; trees = c.pop.new.self; rest = c.loop-tree.rest }) c.loop-tree.trees.items c.in_ok-content-in-Elem.content.items c.in-Some.tree
-    c.loop-tree.rest.items c.in_ok-rest-in-Elem.rest.items (forest_of c.args.run) c.loop-tree.invariant c.in-Some.ensures.items c.in-Elem.ensures refl c.in_ok-push-in-Elem.ensures.items (c.in_ok-content-in-Elem.ensures ∙ ap trees c.content.ensures) c.in_ok-rest-in-Elem.ensures
+    c.loop-tree.rest.items c.in_ok-rest-in-Elem.rest.items (forest_of c.args.run) c.loop-tree.invariant c.in-Some.ensures.items c.in-Elem.ensures refl c.in_ok-push-in-Elem.ensures.items (c.in_ok-content-in-Elem.ensures ∙ ap trees c.content.ensures)
+    (c.in_ok-rest-in-Elem.ensures.items ∙ c.as_slice-in-Elem.ensures.value ∙ c.in_ok-ends.ensures)
 
 pub loop-tree-smaller : goal.loop-tree-smaller
 loop-tree-smaller c = work_close c.loop-tree.outer.items c.pop-in-None.new.self.items c.in-Some-pop.open c.loop-tree.trees.items c.in-Some-pop.ensures.items

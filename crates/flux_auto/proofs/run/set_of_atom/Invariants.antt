@@ -1,7 +1,6 @@
-use Rattle.std.proofs.Common.{◌≡◌, take, map}
-use Rattle.flux_auto.specs.Takes.{profile_atom}
-use Rattle.flux_auto.specs.Built.{state_of}
+use Rattle.std.proofs.Common.{◌≡◌, take, replicate, length, false}
+use Rattle.flux_auto.specs.Arcs.{mark_by_leaps}
 use Rattle.flux_auto.proofs.run.set_of_atom.Given as goal
 
-abbrev pub invariant-loop-row : goal.invariant-loop-row
-invariant-loop-row l = l.set.items ≡ profile_atom (map state_of (take l.row-index l.rows)) l.kind l.rest
+abbrev pub invariant-loop-leap : goal.invariant-loop-leap
+invariant-loop-leap l = l.set.items ≡ mark_by_leaps l.rest (replicate (length l.rows) false) (take l.leap-index l.leaps)

@@ -1,7 +1,6 @@
-use Rattle.std.proofs.Common.{◌≡◌, take, map}
-use Rattle.flux_auto.specs.Takes.{profile_element}
-use Rattle.flux_auto.specs.Built.{state_of}
+use Rattle.std.proofs.Common.{◌≡◌, take, replicate, length, false}
+use Rattle.flux_auto.specs.Arcs.{mark_by_arcs}
 use Rattle.flux_auto.proofs.run.set_of_element.Given as goal
 
-abbrev pub invariant-loop-row : goal.invariant-loop-row
-invariant-loop-row l = l.set.items ≡ profile_element (map state_of (take l.row-index l.rows)) l.label l.content l.rest
+abbrev pub invariant-loop-arc : goal.invariant-loop-arc
+invariant-loop-arc l = l.set.items ≡ mark_by_arcs l.content l.rest (replicate (length l.rows) false) (take l.arc-index l.labelled)

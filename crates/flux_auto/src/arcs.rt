@@ -1,0 +1,135 @@
+// The edges of an automaton, by the trees that they go by.
+ghost use Rattle.std.specs.Prelude.{◌≡◌, ◌<◌, ◌∷◌, [], ℕ, length, IfOk, OnOk};
+ghost use Rattle.flux_auto.specs.Arcs.{leaving, arcs_at, leaps_at, Adds, IsIndex};
+ghost use Rattle.flux_auto.specs.declared.edge.Edge.TheVariants.{Atom, Elem};
+
+use crate::Edge;
+use crate::table::Row;
+use flux_atom::{AtomKind, Name};
+use std::alloc::{AllocError, Global};
+
+// An edge by an element of a known label: the state that it leaves, that of the content, and that
+// of the trees after the element.
+#[derive(Clone, Copy)]
+pub(crate) struct Arc {
+    pub(crate) source: u64,
+    pub(crate) content: u64,
+    pub(crate) next: u64,
+}
+
+// An edge by an atom of a known kind: the state that it leaves, and that of the trees after it.
+#[derive(Clone, Copy)]
+pub(crate) struct Leap {
+    pub(crate) source: u64,
+    pub(crate) next: u64,
+}
+
+// The edges by elements, at the number of their label, and those by atoms, of each kind.
+#[derive(Drop)]
+pub(crate) struct Arcs {
+    pub(crate) by_label: Vec<Vec<Arc>>,
+    pub(crate) texts: Vec<Leap>,
+    pub(crate) truths: Vec<Leap>,
+}
+
+impl Arcs {
+    // The edges of the states that the rows are.
+    pub(crate) fn of(alloc: Global, rows: &[Row]) -> Result<Arcs, AllocError>
+        ensures { IfOk result (IsIndex rows.now) }
+    {
+        let mut arcs = Arcs {
+            by_label: Vec::new(alloc),
+            texts: Vec::new(alloc),
+            truths: Vec::new(alloc),
+        };
+        for source in 0..rows.len() {
+            add_all(&mut arcs, source as u64, rows[source].edges.as_slice())?;
+        }
+        Ok(arcs)
+    }
+
+    // The edges by an element with a label.
+    pub(crate) fn for_label(&self, label: Name) -> &[Arc]
+        ensures { result.now ≡ arcs_at self.now.by_label.items label }
+    {
+        match self.by_label.get(label.number() as usize) {
+            Some(arcs) => arcs.as_slice(),
+            None => &[],
+        }
+    }
+
+    // The edges by an atom of a kind.
+    pub(crate) fn for_kind(&self, kind: AtomKind) -> &[Leap]
+        ensures { result.now ≡ leaps_at self.now kind }
+    {
+        match kind {
+            AtomKind::Bool => self.truths.as_slice(),
+            AtomKind::Text => self.texts.as_slice(),
+        }
+    }
+}
+
+// Makes a place for a label.
+fn make_place(by_label: &mut Vec<Vec<Arc>>, number: usize) -> Result<(), AllocError>
+    ensures there { OnOk result (number < length by_label.new.items) }
+    ensures same { (n : ℕ) → arcs_at by_label.new.items n ≡ arcs_at by_label.old.items n }
+{
+    let alloc = *by_label.allocator();
+    while by_label.len() <= number {
+        by_label.push(Vec::new(alloc))?;
+    }
+    Ok(())
+}
+
+fn add_arc(arcs: &mut Arcs, label: Name, arc: Arc) -> Result<(), AllocError>
+    ensures { OnOk result (Adds arcs.old arcs.new ((arc.source, Elem label arc.content arc.next) ∷ [])) }
+{
+    let number = label.number() as usize;
+    make_place(&mut arcs.by_label, number)?;
+    arcs.by_label[number].push(arc)?;
+    Ok(())
+}
+
+fn add_leap(arcs: &mut Arcs, kind: AtomKind, leap: Leap) -> Result<(), AllocError>
+    ensures { OnOk result (Adds arcs.old arcs.new ((leap.source, Atom kind leap.next) ∷ [])) }
+{
+    match kind {
+        AtomKind::Bool => arcs.truths.push(leap)?,
+        AtomKind::Text => arcs.texts.push(leap)?,
+    }
+    Ok(())
+}
+
+// Adds an edge that leaves a state.
+fn add(arcs: &mut Arcs, source: u64, edge: &Edge) -> Result<(), AllocError>
+    ensures { OnOk result (Adds arcs.old arcs.new ((source, edge.now) ∷ [])) }
+{
+    match edge {
+        Edge::Atom(kind, next) => {
+            let next = *next;
+            add_leap(arcs, *kind, Leap { source, next })
+        }
+        Edge::Elem(label, content, next) => {
+            let (content, next) = (*content, *next);
+            add_arc(
+                arcs,
+                *label,
+                Arc {
+                    source,
+                    content,
+                    next,
+                },
+            )
+        }
+    }
+}
+
+// Adds all edges of a state.
+fn add_all(arcs: &mut Arcs, source: u64, edges: &[Edge]) -> Result<(), AllocError>
+    ensures { OnOk result (Adds arcs.old arcs.new (leaving source edges.now)) }
+{
+    for edge in edges {
+        add(arcs, source, edge)?;
+    }
+    Ok(())
+}
