@@ -1,5 +1,5 @@
 // Good definitions, and the one tree that a type stands for.
-ghost use Rattle.std.specs.Prelude.{◌≡◌, ◌<◌, ℕ, Some, length, slice_get, IfSome, IfNone};
+ghost use Rattle.std.specs.Prelude.{◌≡◌, ◌<◌, ℕ, Some, length, slice_get, IfOk, IfSome, IfNone};
 ghost use Rattle.std.specs.Option.{option_map};
 ghost use Rattle.flux_schema.specs.Definitions.{body_of, IsGood};
 ghost use Rattle.flux_schema.specs.Fits.{MembershipComputes};
@@ -7,8 +7,9 @@ ghost use Rattle.flux_schema.specs.Single.{Single, IsNotSingle};
 ghost use Rattle.flux_types.specs.Read.{ty_of};
 ghost use Rattle.flux_types.specs.Kept.{definitions_of, AreKept, IsKnownAtTop};
 
-use crate::Ty;
+use crate::{Ty, copy_of};
 use flux_atom::Name;
+use std::alloc::{AllocError, Global};
 use std::marker::Model;
 
 // A name and the type that it stands for.
@@ -41,6 +42,14 @@ impl Model for Defs {
 }
 
 impl Defs {
+    /// The same definitions once more.
+    pub fn copy(&self, alloc: Global) -> Result<Defs, AllocError>
+        ensures { IfOk result (λ copied. copied ≡ self.now) }
+    {
+        let kept = copies(alloc, &self.kept)?;
+        Ok(Defs { kept })
+    }
+
     pub(crate) fn over(kept: Vec<Kept>) -> Defs
         requires { AreKept (definitions_of kept.items) }
         ensures { result ≡ definitions_of kept.items }
@@ -71,6 +80,18 @@ impl Defs {
     {
         &self.kept[index as usize].body
     }
+}
+
+fn copies(alloc: Global, kept: &[Kept]) -> Result<Vec<Kept>, AllocError>
+    ensures { IfOk result (λ copied. copied.items ≡ kept.now) }
+{
+    let mut copied = Vec::new(alloc);
+    for one in kept {
+        let name = one.name;
+        let body = copy_of(alloc, &one.body)?;
+        copied.push(Kept { name, body })?;
+    }
+    Ok(copied)
 }
 
 /// The atom or the element that a type of one tree stands for.

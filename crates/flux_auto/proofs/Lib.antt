@@ -1,0 +1,11 @@
+pub mod Lists
+pub mod Tables
+pub mod Growing
+pub mod Measures
+pub mod Contents
+pub mod Marking
+pub mod Reading
+pub mod Closing
+pub mod Making
+pub mod Meaning
+pub mod Adding

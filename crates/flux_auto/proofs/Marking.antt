@@ -1,0 +1,100 @@
+-- The laws of the search for the names whose types have the empty forest.
+use Rattle.std.proofs.Common.{◌≡◌, ◌⊎◌, ◌↔◌, ◌+◌, ◌<◌, ◌≤◌, ℕ, zero, suc, List, [], ◌∷◌, Bool, true, false, Some, length, get_or, replicate, refl, sym, ap, subst, ◌∙◌, inl, inr, arith}
+use Rattle.std.proofs.lemmas.List.{length-set}
+use Rattle.std.proofs.Math.ListN.{set}
+use Rattle.flux_trees.specs.Hedge.{nil}
+use Rattle.flux_schema.specs.Ty.{Ty, named}
+use Rattle.flux_schema.specs.Definitions.{Definitions, body_of}
+use Rattle.flux_schema.specs.Member.{Member, in_name}
+use Rattle.flux_schema.specs.Marks.{unmarked}
+use Rattle.flux_schema.proofs.MarkLaws.{marked-set, unmarked-set}
+use Rattle.flux_auto.specs.Takes.{has}
+use Rattle.flux_auto.specs.Standing.{empties, TellsEmpty}
+use Rattle.flux_auto.specs.Marking.{MarksSound, Marks}
+use Rattle.flux_auto.proofs.Lists.{of_name, empties-sound, empties-complete}
+use Rattle.flux_auto.proofs.Growing.{below_or_not}
+
+-- a round that has come to the index n
+pub record Marking (defs : Definitions) (before names : List Bool) (n : ℕ) (more : Bool) : Type 0 where
+  pub len : length names ≡ length defs
+  pub sound : MarksSound defs before → MarksSound defs names
+  pub fewer : more ≡ true → unmarked names < unmarked before
+  pub no_more : unmarked names ≤ unmarked before
+  pub all : more ≡ false → (x : ℕ) (t : Ty) → x < n → body_of defs x ≡ Some t → empties (has names) t ≡ true → has names x ≡ true
+
+pub marking_begins : (defs : Definitions) (names : List Bool) → length names ≡ length defs → Marking defs names names 0 false
+marking_begins defs names e = record {
+  len = e;
+  sound = λ s. s;
+  fewer = λ k. cc;
+  no_more = omega arith;
+  all = λ k x t lt. absurd (omega (arith, lt));
+}
+
+some_is : (t u : Ty) → Some t ≡ Some u → t ≡ u
+some_is t u e = cc
+
+-- the name has no mark, and its body has the empty forest
+pub marking_marks : (defs : Definitions) (before names : List Bool) (n : ℕ) (more read : Bool) (t : Ty) → Marking defs before names n more → n < length names → read ≡ get_or names n read → read ≡ false → body_of defs n ≡ Some t → empties (has names) t ≡ true
+    → Marking defs before (set names n true) (n + 1) true
+marking_marks defs before names n more read t m lt is bare_now body e =
+    let bare : get_or names n false ≡ false = subst (λ b. get_or names n b ≡ b) bare_now (sym is) in
+    record {
+      len = length-set names n true ∙ m.len;
+      sound = λ s x h. elim (marked-set names n x h) [
+        | inl same ↦ subst (λ y. Member defs nil (named y)) (sym same) (in_name n body (empties-sound defs (has names) (m.sound s) t e))
+        | inr k ↦ m.sound s x k
+      ];
+      fewer = λ k. omega (arith, m.no_more, unmarked-set names n lt bare);
+      no_more = omega (arith, m.no_more, unmarked-set names n lt bare);
+      all = λ k. cc;
+    }
+
+-- the name has a mark already, or its body lacks the empty forest
+pub marking_keeps : (defs : Definitions) (before names : List Bool) (n : ℕ) (more : Bool) → Marking defs before names n more → ((t : Ty) → body_of defs n ≡ Some t → (has names n ≡ true) ⊎ (empties (has names) t ≡ false)) → Marking defs before names (n + 1) more
+marking_keeps defs before names n more m e = record {
+  len = m.len;
+  sound = m.sound;
+  fewer = m.fewer;
+  no_more = m.no_more;
+  all = λ k x u lt is h. elim (below_or_not x n) [
+    | inl l ↦ m.all k x u l is h
+    | inr l ↦
+        let at : x ≡ n = omega (arith, l, lt) in
+        elim (e u (ap (body_of defs) (sym at) ∙ is)) [
+          | inl marked ↦ ap (has names) at ∙ marked
+          | inr lacks ↦ (let x : true ≡ false = sym h ∙ lacks in cc)
+        ]
+  ];
+}
+
+-- the body is one
+pub lacks_body : (defs : Definitions) (names : List Bool) (n : ℕ) (t : Ty) → body_of defs n ≡ Some t → empties (has names) t ≡ false → (u : Ty) → body_of defs n ≡ Some u → (has names n ≡ true) ⊎ (empties (has names) u ≡ false)
+lacks_body defs names n t is e u f = inr (ap (empties (has names)) (some_is u t (sym f ∙ is)) ∙ e)
+
+body_within : (defs : Definitions) (x : ℕ) (t : Ty) → body_of defs x ≡ Some t → x < length defs
+body_within [] x t e = cc
+body_within (d ∷ defs) zero t e = omega arith
+body_within (d ∷ defs) (suc x) t e = omega (arith, body_within defs x t e)
+
+pub marking_ends : (defs : Definitions) (before names : List Bool) (n : ℕ) (more : Bool) → Marking defs before names n more → length defs ≤ n → Marks defs before names more
+marking_ends defs before names n more m le = record {
+  sound = m.sound;
+  fewer = m.fewer;
+  all = λ k x t is e. m.all k x t (omega (arith, le, body_within defs x t is)) is e;
+}
+
+none_marked : (n x : ℕ) → has (replicate n false) x ≡ true → ⊥
+none_marked zero x h = cc
+none_marked (suc n) zero h = cc
+none_marked (suc n) (suc x) h = none_marked n x h
+
+pub sound_begins : (defs : Definitions) (names : List Bool) (n : ℕ) → names ≡ replicate n false → MarksSound defs names
+sound_begins defs names n e x h = absurd (none_marked n x (subst (λ l. has l x ≡ true) e h))
+
+-- where a round finds no more
+pub tells_all : (defs : Definitions) (before names : List Bool) (more : Bool) → MarksSound defs before → Marks defs before names more → more ≡ false → TellsEmpty defs names
+tells_all defs before names more s m e x = (
+  λ h. m.sound s x h,
+  λ h. let p = of_name defs h in m.all e x p.0 p.1 (empties-complete defs (has names) (m.all e) nil p.0 p.2 refl),
+)

@@ -1,0 +1,7 @@
+use Rattle.std.proofs.Common.{subst}
+use Rattle.flux_auto.specs.Automaton.{Automaton, EdgesInside}
+use Rattle.flux_auto.proofs.Meaning.{edges_inside}
+use Rattle.flux_auto.proofs.auto.Auto.states.Goals as goal
+
+pub returns-clause-edges : goal.returns-clause-edges
+returns-clause-edges c = subst (λ (a : Automaton). EdgesInside a.states) c.self.view_is (edges_inside c.self.inside.defs c.self.inside.names.items c.self.inside.table c.self.invariant.complete)

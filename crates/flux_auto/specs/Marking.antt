@@ -1,0 +1,20 @@
+-- The search for the names whose types have the empty forest.
+use Rattle.std.specs.Prelude.{◌≡◌, ℕ, ◌<◌, ◌≤◌, Bool, true, false, List, Some, length}
+use Rattle.flux_trees.specs.Hedge.{nil}
+use Rattle.flux_schema.specs.Ty.{Ty, named}
+use Rattle.flux_schema.specs.Definitions.{Definitions, body_of}
+use Rattle.flux_schema.specs.Member.{Member}
+use Rattle.flux_schema.specs.Marks.{unmarked}
+use Rattle.flux_auto.specs.Takes.{has}
+use Rattle.flux_auto.specs.Standing.{empties}
+
+-- each marked name has the empty forest
+abbrev pub MarksSound : Definitions → List Bool → Type 0
+MarksSound defs names = (x : ℕ) → has names x ≡ true → Member defs nil (named x)
+
+-- a round of marking: marks stay right; where there was one more, fewer names are left, and else
+-- each name whose body has the empty forest is marked
+pub record Marks (defs : Definitions) (before after : List Bool) (more : Bool) : Type 0 where
+  pub sound : MarksSound defs before → MarksSound defs after
+  pub fewer : more ≡ true → unmarked after < unmarked before
+  pub all : more ≡ false → (x : ℕ) (t : Ty) → body_of defs x ≡ Some t → empties (has after) t ≡ true → has after x ≡ true

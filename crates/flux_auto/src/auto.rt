@@ -1,0 +1,139 @@
+// The automaton of definitions and of the types that were added.
+ghost use Rattle.std.specs.Prelude.{◌≡◌, ◌↔◌, ◌<◌, ◌++◌, ◌∷◌, [], ℕ, Some, IsTrue, length, slice_get, IfOk, OnOk, OnErr, IfSome};
+ghost use Rattle.std.specs.Option.{option_map};
+ghost use Rattle.flux_schema.specs.Definitions.{IsKnown};
+ghost use Rattle.flux_types.specs.Read.{ty_of};
+
+use crate::Edge;
+use crate::make::{begin, extend_or_stay};
+use crate::names::empty_names;
+use crate::table::Table;
+use flux_types::{Defs, Ty, copy_of};
+use std::alloc::{AllocError, Global};
+use std::marker::Model;
+
+/// A type that was added to an automaton. Contracts see its place among these, counted from 0. It
+/// means nothing to another automaton.
+#[derive(Clone, Copy, Debug)]
+pub struct Start(usize);
+
+impl Model for Start {
+    ghost use Rattle.std.specs.Prelude.{ℕ};
+
+    ghost Value = { ℕ };
+
+    ghost view = { λ s. s.0 };
+
+    ghost inverse = { λ s. record { 0 = s } };
+}
+
+// A type that was added, and its state.
+#[derive(Drop)]
+pub(crate) struct Added {
+    pub(crate) ty: Ty,
+    pub(crate) state: u64,
+}
+
+/// A tree automaton over forests, with a state for each type that was added. The states of a
+/// definition are there once, however often it is used, but where a name stands outside all
+/// elements, those of its body are made anew for what stands behind it. So names that double at
+/// each step, as `X=Y,Y` and `Y=Z,Z` and so on, end in want of memory. Reading a type recurses by
+/// its height, and by the names that lead to names in it.
+#[derive(Drop)]
+pub struct Auto {
+    defs: Defs,
+    // of each definition, whether the empty forest is a member
+    names: Vec<bool>,
+    table: Table,
+    added: Vec<Added>,
+}
+
+impl Model for Auto {
+    ghost use Rattle.flux_auto.specs.Automaton.{Automaton, automaton_code};
+
+    ghost Value = { Automaton };
+
+    ghost coded = { automaton_code };
+
+    ghost use Rattle.flux_auto.specs.Shown.{shown, IsRight};
+
+    ghost view = { λ a. shown a.defs a.table a.added.items };
+
+    ghost invariant = { λ a. IsRight a.defs a.names.items a.table a.added.items };
+}
+
+impl Auto {
+    ghost use Rattle.flux_auto.specs.Automaton.{TakesMembers, KeepsStates, EdgesInside};
+
+    /// An automaton of the definitions, to which no type was added. It keeps copies of them.
+    pub fn new(alloc: Global, defs: &Defs) -> Result<Auto, AllocError>
+        ensures definitions { IfOk result (λ auto. auto.definitions ≡ defs.now) }
+        ensures none { IfOk result (λ auto. auto.types ≡ []) }
+    {
+        let defs = defs.copy(alloc)?;
+        let names = empty_names(alloc, &defs)?;
+        let table = begin(alloc, &defs, &names)?;
+        let added = Vec::new(alloc);
+        Ok(Auto {
+            defs,
+            names,
+            table,
+            added,
+        })
+    }
+
+    /// Adds a type. Those that were added before keep their starts, also where this fails.
+    pub fn add(&mut self, ty: &Ty) -> Result<Start, AllocError>
+        requires { IsKnown self.old.definitions (ty_of ty.now) }
+        ensures start { IfOk result (λ start. start ≡ length self.old.types) }
+        ensures types { OnOk result (self.new.types ≡ self.old.types ++ ty_of ty.now ∷ []) }
+        ensures definitions { OnOk result (self.new.definitions ≡ self.old.definitions) }
+        ensures states { OnOk result (KeepsStates self.old.states self.new.states) }
+        ensures starts { (i s : ℕ) → slice_get self.old.starts i ≡ Some s → slice_get self.new.starts i ≡ Some s }
+        ensures err { OnErr result (self.new ≡ self.old) }
+    {
+        let alloc = *self.added.allocator();
+        let copied = copy_of(alloc, ty)?;
+        self.added.try_reserve(1)?;
+        let state = extend_or_stay(alloc, &self.defs, &self.names, &mut self.table, ty)?;
+        let start = Start(self.added.len());
+        if let Err(_) = self.added.push(Added { ty: copied, state }) {
+            unreachable!()
+        }
+        Ok(start)
+    }
+
+    /// How many states there are: they are the numbers below it.
+    pub fn states(&self) -> u64
+        ensures count { result ≡ length self.now.states }
+        ensures edges { EdgesInside self.now.states }
+    {
+        self.table.rows.len() as u64
+    }
+
+    /// The state of a type that was added: it takes the members of the type.
+    pub fn state(&self, start: Start) -> u64
+        requires { start < length self.now.types }
+        ensures state { slice_get self.now.starts start ≡ Some result }
+        ensures within { result < length self.now.states }
+        ensures members { IfSome (slice_get self.now.types start) (TakesMembers self.now result) }
+    {
+        self.added[start.0].state
+    }
+
+    /// Whether a state takes the empty forest.
+    pub fn ends(&self, state: u64) -> bool
+        requires { state < length self.now.states }
+        ensures { option_map (λ s. s.ends) (slice_get self.now.states state) ≡ Some result }
+    {
+        self.table.rows[state as usize].ends
+    }
+
+    /// The trees that a state goes on by.
+    pub fn edges(&self, state: u64) -> &[Edge]
+        requires { state < length self.now.states }
+        ensures { option_map (λ s. s.edges) (slice_get self.now.states state) ≡ Some result.now }
+    {
+        self.table.rows[state as usize].edges.as_slice()
+    }
+}

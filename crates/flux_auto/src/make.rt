@@ -1,0 +1,81 @@
+// The table of an automaton: begun with its definitions, and made longer by types.
+ghost use Rattle.std.specs.Prelude.{◌≡◌, ◌<◌, ◌≤◌, length, take, IfOk, OnOk, OnErr};
+ghost use Rattle.flux_schema.specs.Definitions.{IsKnown};
+ghost use Rattle.flux_types.specs.Read.{ty_of};
+ghost use Rattle.flux_auto.specs.Standing.{TellsEmpty};
+ghost use Rattle.flux_auto.specs.Built.{Grows, IsBegun, IsComplete, Extended};
+
+use crate::close::complete;
+use crate::content::{put_content, register};
+use crate::table::{Table, put};
+use flux_types::{Defs, Ty};
+use std::alloc::{AllocError, Global};
+
+// A table with no state but the end.
+fn begun(alloc: Global) -> Result<Table, AllocError>
+    ensures { IfOk result IsBegun }
+{
+    let mut table = Table {
+        cells: Vec::new(alloc),
+        rows: Vec::new(alloc),
+    };
+    put(&mut table, Ty::Empty, 0, true, Vec::new(alloc))?;
+    Ok(table)
+}
+
+// A table with the states of the definitions.
+pub(crate) fn begin(alloc: Global, defs: &Defs, names: &[bool]) -> Result<Table, AllocError>
+    requires { TellsEmpty defs.now names.now }
+    ensures { IfOk result (IsComplete defs.now names.now) }
+{
+    let mut table = begun(alloc)?;
+    for index in 0..defs.len() {
+        register(alloc, &mut table, defs.unfold(index))?;
+    }
+    complete(alloc, defs, names, &mut table, 1)?;
+    Ok(table)
+}
+
+// The state of a type, with the states that it leads to.
+fn extend(
+    alloc: Global,
+    defs: &Defs,
+    names: &[bool],
+    table: &mut Table,
+    ty: &Ty,
+) -> Result<u64, AllocError>
+    requires complete { IsComplete defs.now names.now table.old }
+    requires known { IsKnown defs.now (ty_of ty.now) }
+    ensures grows { Grows (length table.old.rows.items) table.old table.new }
+    ensures ok { IfOk result (λ s. Extended defs.now names.now table.new (ty_of ty.now) s) }
+{
+    let from = table.cells.len() as u64;
+    register(alloc, table, ty)?;
+    let state = put_content(alloc, table, ty)?;
+    complete(alloc, defs, names, table, from)?;
+    Ok(state)
+}
+
+// The same, with the table as it was where memory is wanting.
+pub(crate) fn extend_or_stay(
+    alloc: Global,
+    defs: &Defs,
+    names: &[bool],
+    table: &mut Table,
+    ty: &Ty,
+) -> Result<u64, AllocError>
+    requires complete { IsComplete defs.now names.now table.old }
+    requires known { IsKnown defs.now (ty_of ty.now) }
+    ensures grows { OnOk result (Grows (length table.old.rows.items) table.old table.new) }
+    ensures ok { IfOk result (λ s. Extended defs.now names.now table.new (ty_of ty.now) s) }
+    ensures cells { OnErr result (table.new.cells.items ≡ table.old.cells.items) }
+    ensures rows { OnErr result (table.new.rows.items ≡ table.old.rows.items) }
+{
+    let before = table.cells.len();
+    let state = extend(alloc, defs, names, table, ty);
+    if state.is_err() {
+        table.cells.truncate(before);
+        table.rows.truncate(before);
+    }
+    state
+}
