@@ -1,15 +1,20 @@
 -- Types that are added to an automaton.
-use Rattle.std.proofs.Common.{◌≡◌, ℕ, zero, suc, ◌⊎◌, ◌<◌, ◌+◌, List, [], ◌∷◌, ◌++◌, length, Option, Some, None, slice_get, Bool, true, IfSome, map, refl, sym, ap, subst, ◌∙◌, inl, inr, arith, length-append}
+use Rattle.std.proofs.Common.{◌≡◌, ℕ, zero, suc, ◌⊎◌, ◌<◌, ◌+◌, List, [], ◌∷◌, ◌++◌, length, Option, Some, None, slice_get, Bool, true, false, IsTrue, ◌↔◌, IfSome, map, refl, sym, ap, subst, ◌∙◌, inl, inr, arith, length-append}
 use Rattle.std.proofs.lemmas.Option.{slice_get_within}
+use Rattle.flux_trees.specs.Hedge.{Plain}
+use Rattle.flux_trees.specs.Draft.{Draft, done, IsWhole, outer}
 use Rattle.flux_schema.specs.Ty.{Ty}
+use Rattle.flux_schema.specs.Member.{Member}
 use Rattle.flux_schema.specs.Definitions.{Definitions}
 use Rattle.flux_types.specs.Read.{ty_of}
 use Rattle.flux_auto.specs.declared.table.Table.{Table}
 use Rattle.flux_auto.specs.declared.auto.Added.{Added}
-use Rattle.flux_auto.specs.Automaton.{Automaton, TakesMembers}
+use Rattle.flux_auto.specs.Takes.{takes}
+use Rattle.flux_auto.specs.Automaton.{Automaton, TakesMembers, IsSomeMember}
 use Rattle.flux_auto.specs.Standing.{at, lists, Ready, IsContent}
-use Rattle.flux_auto.specs.Built.{Grows, IsClosed, IsComplete, Extended}
+use Rattle.flux_auto.specs.Built.{states_of, Grows, IsClosed, IsComplete, Extended}
 use Rattle.flux_auto.specs.Shown.{shown, IsRight}
+use Rattle.flux_auto.specs.Witness.{IsTakenBy}
 use Rattle.flux_auto.proofs.Tables.{some_is, get-append, get-end, IsContent-grows}
 use Rattle.flux_auto.proofs.Growing.{below_or_not, carried}
 use Rattle.flux_auto.proofs.Meaning.{get-map, content_takes}
@@ -50,6 +55,25 @@ pub members_shown : (defs : Definitions) (names : List Bool) (a : Table) (added 
     → IfSome (slice_get (map (λ d. ty_of d.ty) added) i) (TakesMembers (shown defs a added) d.state)
 members_shown defs names a added i d r e =
     subst (λ o. IfSome o (TakesMembers (shown defs a added) d.state)) (sym (get-map (λ d. ty_of d.ty) added i d e)) (content_takes defs names a r.complete d.state (ty_of d.ty) (r.contents i d e))
+
+pub member_shown : (defs : Definitions) (names : List Bool) (a : Table) (added : List Added) (i : ℕ) (d : Added) (found : Bool) (v : Plain) → IsRight defs names a added → slice_get added i ≡ Some d → found ≡ takes (states_of a) d.state v
+    → IfSome (slice_get (map (λ d. ty_of d.ty) added) i) (λ t. IsTrue found ↔ Member defs v t)
+member_shown defs names a added i d found v r e f =
+    let tells = content_takes defs names a r.complete d.state (ty_of d.ty) (r.contents i d e) v in
+    subst (λ o. IfSome o (λ t. IsTrue found ↔ Member defs v t)) (sym (get-map (λ d. ty_of d.ty) added i d e)) (λ h. tells.0 (sym f ∙ h), λ m. f ∙ tells.1 m)
+
+-- a forest that the state takes, or none
+pub some_shown : (defs : Definitions) (names : List Bool) (a : Table) (added : List Added) (i : ℕ) (d : Added) (found : Option (Draft (Unit {0}))) → IsRight defs names a added → slice_get added i ≡ Some d → IsTakenBy (states_of a) d.state found
+    → IfSome (slice_get (map (λ d. ty_of d.ty) added) i) (λ t. IsSomeMember defs t found)
+some_shown defs names a added i d found r e taken =
+    subst (λ o. IfSome o (λ t. IsSomeMember defs t found)) (sym (get-map (λ d. ty_of d.ty) added i d e)) (member_of found taken)
+  where
+    tells : (v : Plain) → (takes (states_of a) d.state v ≡ true) ↔ Member defs v (ty_of d.ty)
+    tells = content_takes defs names a r.complete d.state (ty_of d.ty) (r.contents i d e)
+
+    member_of : (found : Option (Draft (Unit {0}))) → IsTakenBy (states_of a) d.state found → IsSomeMember defs (ty_of d.ty) found
+    member_of (Some m) h = (h.0, (tells (outer m)).0 h.1)
+    member_of None h = λ v m. (let x : true ≡ false = sym ((tells v).1 m) ∙ h v in cc)
 
 pub starts_kept : (xs ys : List Added) (d : Added) (i s : ℕ) → ys ≡ xs ++ d ∷ [] → slice_get (map (λ d. d.state) xs) i ≡ Some s → slice_get (map (λ d. d.state) ys) i ≡ Some s
 starts_kept xs ys d i s e h = ap (λ l. slice_get (map (λ d. d.state) l) i) e ∙ map_kept xs i h

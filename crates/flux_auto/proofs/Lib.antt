@@ -9,3 +9,7 @@ pub mod Closing
 pub mod Making
 pub mod Meaning
 pub mod Adding
+pub mod Folding
+pub mod Recipes
+pub mod Building
+pub mod TakeLaws

@@ -53,7 +53,7 @@ pub length-map : {A B : Type 0} (f : A → B) (xs : List A) → length (map f xs
 length-map f [] = refl
 length-map f (x ∷ xs) = ap suc (length-map f xs)
 
-has-map : (f : State → Bool) (rows : List Row) (s : ℕ) (r : Row) → slice_get rows s ≡ Some r → has (map f (map state_of rows)) s ≡ f (state_of r)
+pub has-map : (f : State → Bool) (rows : List Row) (s : ℕ) (r : Row) → slice_get rows s ≡ Some r → has (map f (map state_of rows)) s ≡ f (state_of r)
 has-map f [] s r e = cc
 has-map f (q ∷ rows) zero r e = (let same : q ≡ r = cc in ap (λ z. f (state_of z)) same)
 has-map f (q ∷ rows) (suc s) r e = has-map f rows s r e

@@ -1,10 +1,11 @@
 -- An automaton of types, as contracts see it.
-use Rattle.std.specs.Prelude.{◌≡◌, ◌⊎◌, ◌↔◌, ℕ, ◌<◌, Bool, true, false, List, Some, length, map, slice_get, refl}
+use Rattle.std.specs.Prelude.{◌≡◌, ◌⊎◌, ◌↔◌, ℕ, ◌<◌, Bool, true, false, List, Option, Some, None, length, map, slice_get, refl}
 use Rattle.std.proofs.Common.{inl, inr}
 use Rattle.std.specs.Coded.{Coded, code_by, coded×, coded⊎, coded_ℕ, coded_bool, coded_list}
 use Rattle.flux_atom.specs.declared.atom.AtomKind.{AtomKind}
 use Rattle.flux_atom.specs.declared.atom.AtomKind.TheVariants as kind
 use Rattle.flux_trees.specs.Hedge.{Plain}
+use Rattle.flux_trees.specs.Draft.{Draft, IsWhole, outer}
 use Rattle.flux_schema.specs.Ty.{Ty}
 use Rattle.flux_schema.specs.TyCode.{ty_code}
 use Rattle.flux_schema.specs.Definitions.{Definitions}
@@ -24,6 +25,11 @@ pub record Automaton : Type 0 where
 -- the state takes exactly the members of the type
 abbrev pub TakesMembers : Automaton → ℕ → Ty → Type 0
 TakesMembers a s t = (v : Plain) → (takes a.states s v ≡ true) ↔ Member a.definitions v t
+
+-- a forest that is whole and a member of the type; none where the type has no member
+abbrev pub IsSomeMember : Definitions → Ty → Option (Draft (Unit {0})) → Type 0
+IsSomeMember defs t (Some d) = IsWhole d × Member defs (outer d) t
+IsSomeMember defs t None = (v : Plain) → ¬ (Member defs v t)
 
 -- each state that was there is there, and takes what it took
 pub record KeepsStates (old new : List State) : Type 0 where

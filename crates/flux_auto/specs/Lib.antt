@@ -4,3 +4,6 @@ pub mod Standing
 pub mod Built
 pub mod Marking
 pub mod Shown
+pub mod Folding
+pub mod Witness
+pub mod TakesLaw

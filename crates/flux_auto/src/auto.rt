@@ -2,12 +2,17 @@
 ghost use Rattle.std.specs.Prelude.{◌≡◌, ◌↔◌, ◌<◌, ◌++◌, ◌∷◌, [], ℕ, Some, IsTrue, length, slice_get, IfOk, OnOk, OnErr, IfSome};
 ghost use Rattle.std.specs.Option.{option_map};
 ghost use Rattle.flux_schema.specs.Definitions.{IsKnown};
+ghost use Rattle.flux_schema.specs.Member.{Member};
+ghost use Rattle.flux_forest.specs.View.{forest_of};
 ghost use Rattle.flux_types.specs.Read.{ty_of};
 
 use crate::Edge;
 use crate::make::{begin, extend_or_stay};
 use crate::names::empty_names;
+use crate::run::{set_of, takes};
 use crate::table::Table;
+use crate::witness::some_of;
+use flux_forest::{Forest, View};
 use flux_types::{Defs, Ty, copy_of};
 use std::alloc::{AllocError, Global};
 use std::marker::Model;
@@ -63,7 +68,8 @@ impl Model for Auto {
 }
 
 impl Auto {
-    ghost use Rattle.flux_auto.specs.Automaton.{TakesMembers, KeepsStates, EdgesInside};
+    ghost use Rattle.flux_auto.specs.TakesLaw.{TakesByEdges};
+    ghost use Rattle.flux_auto.specs.Automaton.{IsSomeMember, TakesMembers, KeepsStates, EdgesInside};
 
     /// An automaton of the definitions, to which no type was added. It keeps copies of them.
     pub fn new(alloc: Global, defs: &Defs) -> Result<Auto, AllocError>
@@ -103,9 +109,32 @@ impl Auto {
         Ok(start)
     }
 
+    /// Whether a forest is a member of a type that was added. It takes time in step with the nodes
+    /// of the forest and the edges of the automaton, and no more memory than the states take for
+    /// each element that is open at once. It doesn't recurse.
+    pub fn member(&self, start: Start, view: View<'_>) -> Result<bool, AllocError>
+        requires { start < length self.now.types }
+        ensures { IfOk result (λ found. IfSome (slice_get self.now.types start) (λ t. IsTrue found ↔ Member self.now.definitions (forest_of view.entry) t)) }
+    {
+        let alloc = *self.added.allocator();
+        let set = set_of(alloc, self.table.rows.as_slice(), view)?;
+        Ok(takes(&set, self.added[start.0].state))
+    }
+
+    /// A member of a type that was added, if it has one. Where names double what they stand for
+    /// at each step, as `X=a[Y],a[Y]` and `Y=b[Z],b[Z]`, so do the members, and memory is wanting.
+    pub fn some(&self, start: Start) -> Result<Option<Forest>, AllocError>
+        requires { start < length self.now.types }
+        ensures { IfOk result (λ found. IfSome (slice_get self.now.types start) (λ t. IsSomeMember self.now.definitions t found)) }
+    {
+        let alloc = *self.added.allocator();
+        some_of(alloc, self.table.rows.as_slice(), self.added[start.0].state)
+    }
+
     /// How many states there are: they are the numbers below it.
     pub fn states(&self) -> u64
         ensures count { result ≡ length self.now.states }
+        ensures law { TakesByEdges self.now.states }
         ensures edges { EdgesInside self.now.states }
     {
         self.table.rows.len() as u64

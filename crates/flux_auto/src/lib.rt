@@ -8,7 +8,9 @@ mod edge;
 mod linear;
 mod make;
 mod names;
+mod run;
 mod table;
+mod witness;
 
 pub use auto::{Auto, Start};
 pub use edge::Edge;

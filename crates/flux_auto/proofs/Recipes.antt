@@ -1,0 +1,344 @@
+-- The laws of recipes, and of the search for a forest of each state.
+use Rattle.std.proofs.Common.{◌≡◌, ◌⊎◌, ℕ, zero, suc, ◌+◌, ◌*◌, ◌<◌, ◌≤◌, List, [], ◌∷◌, ◌++◌, Bool, true, false, ◌&&◌, ◌||◌, ◌==◌, Option, Some, None, length, map, slice_get, get_or, IsTrue, option_and_then, refl, sym, ap, ap₂, subst, ◌∙◌, inl, inr, arith, append_assoc, length-append}
+use Rattle.std.specs.List.{list_any}
+use Rattle.std.specs.Option.{option_map, is_some}
+use Rattle.std.proofs.lemmas.Bool.{eq-eqb}
+use Rattle.std.proofs.Math.ListN.{set}
+use Rattle.std.proofs.lemmas.List.{append-nil, length-set}
+use Rattle.std.proofs.lemmas.Option.{slice_get_within, slice_get_read}
+use Rattle.flux_atom.specs.declared.atom.AtomKind.{AtomKind}
+use Rattle.flux_atom.specs.declared.atom.AtomKind.TheVariants as kind
+use Rattle.flux_atom.specs.Atom.{kind_of}
+use Rattle.flux_trees.specs.Hedge.{Plain, nil, elem, leaf, size}
+use Rattle.flux_trees.specs.Draft.{Draft, done, IsWhole, outer}
+use Rattle.flux_schema.specs.Tidy.{same_kind}
+use Rattle.flux_schema.proofs.SameLaws.{same_kind-same}
+use Rattle.flux_auto.specs.declared.edge.Edge.{Edge}
+use Rattle.flux_auto.specs.declared.edge.Edge.TheVariants as edge
+use Rattle.flux_auto.specs.declared.table.Row.{Row}
+use Rattle.flux_auto.specs.declared.witness.Recipe.{Recipe}
+use Rattle.flux_auto.specs.declared.witness.Recipe.TheVariants.{End, Atom, Elem}
+use Rattle.flux_auto.specs.declared.witness.Witnesses.{Witnesses}
+use Rattle.flux_auto.specs.Takes.{State, has, goes_by_element, goes_by_atom, profile, profile_nil, takes}
+use Rattle.flux_auto.specs.Built.{state_of}
+use Rattle.flux_auto.specs.Witness.{sample, forest_at, made, forests_after, forests, IsOlder, AreOlder, place, recipe_by, IsRecipe, Lacks, unplaced, Knows, SettledBelow, Settled, Tried, Round, IsTakenBy}
+use Rattle.flux_auto.proofs.Tables.{some_is, get-append, get-end, split_at}
+use Rattle.flux_auto.proofs.Growing.{below_or_not}
+use Rattle.flux_auto.proofs.Meaning.{got, has-map}
+
+-- ---- the forests of recipes
+
+forests_after-append : (hs : List Plain) (rs qs : List Recipe) → forests_after hs (rs ++ qs) ≡ forests_after (forests_after hs rs) qs
+forests_after-append hs [] qs = refl
+forests_after-append hs (r ∷ rs) qs = forests_after-append (hs ++ made hs r ∷ []) rs qs
+
+length-forests_after : (hs : List Plain) (rs : List Recipe) → length (forests_after hs rs) ≡ length hs + length rs
+length-forests_after hs [] = omega arith
+length-forests_after hs (r ∷ rs) = omega (arith, length-forests_after (hs ++ made hs r ∷ []) rs, length-append hs (made hs r ∷ []))
+
+pub length-forests : (rs : List Recipe) → length (forests rs) ≡ length rs
+length-forests rs = omega (arith, length-forests_after [] rs)
+
+forests_after-more : (hs : List Plain) (rs : List Recipe) → (more : List Plain) × (forests_after hs rs ≡ hs ++ more)
+forests_after-more hs [] = ([], sym (append-nil hs))
+forests_after-more hs (r ∷ rs) =
+    let p = forests_after-more (hs ++ made hs r ∷ []) rs in
+    (made hs r ∷ p.0, p.1 ∙ append_assoc hs (made hs r ∷ []) p.0)
+
+at_append : (hs gs : List Plain) (i : ℕ) → i < length hs → forest_at (hs ++ gs) i ≡ forest_at hs i
+at_append [] gs i lt = absurd (omega (arith, lt))
+at_append (h ∷ hs) gs zero lt = refl
+at_append (h ∷ hs) gs (suc i) lt = at_append hs gs i (omega (arith, lt))
+
+at_end : (hs : List Plain) (h : Plain) (gs : List Plain) → forest_at (hs ++ h ∷ gs) (length hs) ≡ h
+at_end [] h gs = refl
+at_end (g ∷ hs) h gs = at_end hs h gs
+
+pub forest-grows : (rs qs : List Recipe) (i : ℕ) → i < length rs → forest_at (forests (rs ++ qs)) i ≡ forest_at (forests rs) i
+forest-grows rs qs i lt =
+    let p = forests_after-more (forests rs) qs in
+    ap (λ l. forest_at l i) (forests_after-append [] rs qs ∙ p.1) ∙ at_append (forests rs) p.0 i (omega (arith, lt, length-forests rs))
+
+forest-last : (rs : List Recipe) (r : Recipe) → forest_at (forests (rs ++ r ∷ [])) (length rs) ≡ made (forests rs) r
+forest-last rs r =
+    ap (λ l. forest_at l (length rs)) (forests_after-append [] rs (r ∷ [])) ∙ ap (forest_at (forests rs ++ made (forests rs) r ∷ [])) (sym (length-forests rs)) ∙ at_end (forests rs) (made (forests rs) r) []
+
+made-grows : (rs qs : List Recipe) (r : Recipe) → IsOlder (length rs) r → made (forests (rs ++ qs)) r ≡ made (forests rs) r
+made-grows rs qs End o = refl
+made-grows rs qs (Atom k j) o = ap (leaf tt (sample k)) (forest-grows rs qs j o)
+made-grows rs qs (Elem n a b) o = ap₂ (elem tt n) (forest-grows rs qs a o.0) (forest-grows rs qs b o.1)
+
+-- the forest at a place is that of the recipe there
+pub forest-made : (rs : List Recipe) (i : ℕ) (r : Recipe) → slice_get rs i ≡ Some r → IsOlder i r → forest_at (forests rs) i ≡ made (forests rs) r
+forest-made rs i r e o =
+    let p = split_at rs i r e in
+    let whole : (p.0 ++ r ∷ []) ++ p.1 ≡ rs = append_assoc p.0 (r ∷ []) p.1 ∙ sym p.2 in
+    let front : forest_at (forests rs) i ≡ made (forests p.0) r =
+    ap (forest_at (forests rs)) (sym p.3) ∙ ap (λ l. forest_at (forests l) (length p.0)) (sym whole)
+    ∙ forest-grows (p.0 ++ r ∷ []) p.1 (length p.0) (omega (arith, length-append p.0 (r ∷ []))) ∙ forest-last p.0 r in
+    front ∙ sym (ap (λ l. made (forests l) r) p.2 ∙ made-grows p.0 (r ∷ p.1) r (subst (λ n. IsOlder n r) (sym p.3) o))
+
+-- ---- what a recipe gives is taken
+
+any_at : {A : Type 0} (p : A → Bool) (xs : List A) (i : ℕ) (x : A) → slice_get xs i ≡ Some x → p x ≡ true → list_any p xs ≡ true
+any_at p [] i x e t = cc
+any_at p (y ∷ xs) zero x e t = ap (λ b. b || list_any p xs) (ap p (some_is y x e) ∙ t)
+any_at p (y ∷ xs) (suc i) x e t = or_right (p y) (list_any p xs) (any_at p xs i x e t)
+  where
+    or_right : (a b : Bool) → b ≡ true → a || b ≡ true
+    or_right true b e = refl
+    or_right false b e = e
+
+two : {a b : Bool} → a ≡ true → b ≡ true → a && b ≡ true
+two e f = ap₂ (λ a b. a && b) e f
+
+kind_of-sample : (k : AtomKind) → kind_of (sample k) ≡ k
+kind_of-sample kind.Bool = refl
+kind_of-sample kind.Text = refl
+
+-- each place of an option
+placed : (o : Option ℕ) → (o ≡ None) ⊎ ((i : ℕ) × (o ≡ Some i))
+placed None = inl refl
+placed (Some i) = inr (i, refl)
+
+module _ (rows : List Row) (known : Witnesses) (k : Knows rows known) where
+  abbrev hs : List Plain
+  hs = forests known.recipes.items
+
+  abbrev states : List State
+  states = map state_of rows
+
+  by_atom : (s : ℕ) (row : Row) (i : ℕ) (a : AtomKind) (q j : ℕ) → slice_get rows s ≡ Some row → slice_get row.edges.items i ≡ Some (edge.Atom a q) → place known.places.items q ≡ Some j
+      → IsOlder (length known.recipes.items) (Atom a j) × (takes states s (made hs (Atom a j)) ≡ true)
+  by_atom s row i a q j e f p =
+      let sound = k.sound q j p in
+      let test : goes_by_atom (kind_of (sample a)) (profile states (forest_at hs j)) (edge.Atom a q) ≡ true = two (ap (same_kind a) (kind_of-sample a) ∙ same_kind-same a) sound.1 in
+      (sound.0, has-map (λ st. list_any (goes_by_atom (kind_of (sample a)) (profile states (forest_at hs j))) st.edges) rows s row e ∙ any_at (goes_by_atom (kind_of (sample a)) (profile states (forest_at hs j))) row.edges.items i (edge.Atom a q) f test)
+
+  by_element : (s : ℕ) (row : Row) (x : ℕ) (n c q i j : ℕ) → slice_get rows s ≡ Some row → slice_get row.edges.items x ≡ Some (edge.Elem n c q) → place known.places.items c ≡ Some i → place known.places.items q ≡ Some j
+      → IsOlder (length known.recipes.items) (Elem n i j) × (takes states s (made hs (Elem n i j)) ≡ true)
+  by_element s row x n c q i j e f p r =
+      let first = k.sound c i p in
+      let rest = k.sound q j r in
+      let test : goes_by_element n (profile states (forest_at hs i)) (profile states (forest_at hs j)) (edge.Elem n c q) ≡ true = two (eq-eqb n n refl) (two first.1 rest.1) in (
+        (first.0, rest.0),
+        has-map (λ st. list_any (goes_by_element n (profile states (forest_at hs i)) (profile states (forest_at hs j))) st.edges) rows s row e
+            ∙ any_at (goes_by_element n (profile states (forest_at hs i)) (profile states (forest_at hs j))) row.edges.items x (edge.Elem n c q) f test,
+      )
+
+  edge_taken : (s : ℕ) (row : Row) (x : ℕ) (e : Edge) (r : Recipe) → slice_get rows s ≡ Some row → slice_get row.edges.items x ≡ Some e → recipe_by known.places.items e ≡ Some r
+      → IsOlder (length known.recipes.items) r × (takes states s (made hs r) ≡ true)
+  edge_taken s row x (edge.Atom a q) r at get is =
+      elim (placed (place known.places.items q)) [
+        | inl e ↦ (let no_recipe : None ≡ Some r = ap (option_map (λ j. Atom a j)) (sym e) ∙ is in cc)
+        | inr p ↦
+            let same : Atom a p.0 ≡ r = some_is (Atom a p.0) r (ap (option_map (λ j. Atom a j)) (sym p.1) ∙ is) in
+            subst (λ t. IsOlder (length known.recipes.items) t × (takes states s (made hs t) ≡ true)) same (by_atom s row x a q p.0 at get p.1)
+      ]
+  edge_taken s row x (edge.Elem n c q) r at get is =
+      elim (placed (place known.places.items c)) [
+        | inl e ↦ (let no_recipe : None ≡ Some r = ap (option_and_then (λ i. option_map (λ j. Elem n i j) (place known.places.items q))) (sym e) ∙ is in cc)
+        | inr p ↦ elim (placed (place known.places.items q)) [
+          | inl e ↦ (let no_recipe : None ≡ Some r = ap₂ (λ o l. option_and_then (λ i. option_map (λ j. Elem n i j) l) o) (sym p.1) (sym e) ∙ is in cc)
+          | inr o ↦
+              let same : Elem n p.0 o.0 ≡ r = some_is (Elem n p.0 o.0) r (ap₂ (λ o l. option_and_then (λ i. option_map (λ j. Elem n i j) l) o) (sym p.1) (sym o.1) ∙ is) in
+              subst (λ t. IsOlder (length known.recipes.items) t × (takes states s (made hs t) ≡ true)) same (by_element s row x n c q p.0 o.0 at get p.1 o.1)
+        ]
+      ]
+
+  recipe_taken : (s : ℕ) (row : Row) (r : Recipe) → slice_get rows s ≡ Some row → IsRecipe row known.places.items r → IsOlder (length known.recipes.items) r × (takes states s (made hs r) ≡ true)
+  recipe_taken s row r at (inl e) =
+      subst (λ t. IsOlder (length known.recipes.items) t × (takes states s (made hs t) ≡ true)) (sym e.1) (tt, has-map (λ st. st.ends) rows s row at ∙ e.0)
+  recipe_taken s row r at (inr (x, e, get, is)) = edge_taken s row x e r at get is
+
+-- ---- a state more has a place
+
+unplaced-set : (places : List (Option ℕ)) (s i : ℕ) → s < length places → place places s ≡ None → unplaced (set places s (Some i)) + 1 ≡ unplaced places
+unplaced-set [] s i lt e = absurd (omega (arith, lt))
+unplaced-set (None ∷ places) zero i lt e = omega arith
+unplaced-set (Some j ∷ places) zero i lt e = cc
+unplaced-set (None ∷ places) (suc s) i lt e = omega (arith, unplaced-set places s i (omega (arith, lt)) e)
+unplaced-set (Some j ∷ places) (suc s) i lt e = unplaced-set places s i (omega (arith, lt)) e
+
+place-set : (places : List (Option ℕ)) (s i t j : ℕ) → place (set places s (Some i)) t ≡ Some j → ((t ≡ s) × (j ≡ i)) ⊎ (place places t ≡ Some j)
+place-set [] s i t j e = inr e
+place-set (o ∷ places) zero i zero j e = (let same : i ≡ j = cc in inl (refl, sym same))
+place-set (o ∷ places) zero i (suc t) j e = inr e
+place-set (o ∷ places) (suc s) i zero j e = inr e
+place-set (o ∷ places) (suc s) i (suc t) j e = elim (place-set places s i t j e) [ inl p ↦ inl (ap suc p.0, p.1) | inr h ↦ inr h ]
+
+pub tried_found : (rows : List Row) (old new : Witnesses) (s : ℕ) (row : Row) (r : Recipe) → Knows rows old → s < length rows → slice_get rows s ≡ Some row → place old.places.items s ≡ None → IsRecipe row old.places.items r
+    → new.recipes.items ≡ old.recipes.items ++ r ∷ [] → new.places.items ≡ set old.places.items s (Some (length old.recipes.items)) → Tried rows old new s true
+tried_found rows old new s row r k lt at bare is e f =
+    let n = length old.recipes.items in
+    let taken = recipe_taken rows old k s row r at is in
+    let in_places : s < length old.places.items = omega (arith, lt, k.len) in
+    record {
+      knows = record {
+        len = ap length f ∙ length-set old.places.items s (Some n) ∙ k.len;
+        older = λ i q g.
+            let get : slice_get (old.recipes.items ++ r ∷ []) i ≡ Some q = ap (λ l. slice_get l i) (sym e) ∙ g in
+            elim (below_or_not i n) [
+              | inl l ↦ k.older i q (sym (get-append old.recipes.items (r ∷ []) i l) ∙ get)
+              | inr l ↦
+                  let here : i ≡ n = omega (arith, l, slice_get_within (old.recipes.items ++ r ∷ []) i q get, length-append old.recipes.items (r ∷ [])) in
+                  let same : r ≡ q = some_is r q (sym (get-end old.recipes.items r []) ∙ ap (slice_get (old.recipes.items ++ r ∷ [])) (sym here) ∙ get) in
+                  subst (λ j. IsOlder j q) (sym here) (subst (IsOlder n) same taken.0)
+            ];
+        sound = λ t i g.
+            let size : length new.recipes.items ≡ n + 1 = ap length e ∙ length-append old.recipes.items (r ∷ []) in
+            elim (place-set old.places.items s n t i (ap (λ l. place l t) (sym f) ∙ g)) [
+              | inl p ↦ (
+                omega (arith, p.1, size),
+                ap₂ (λ j x. takes (map state_of rows) j (forest_at (forests new.recipes.items) x)) p.0 p.1 ∙ ap (λ l. takes (map state_of rows) s (forest_at (forests l) n)) e ∙ ap (takes (map state_of rows) s) (forest-last old.recipes.items r) ∙ taken.1,
+              )
+              | inr h ↦
+                  let before = k.sound t i h in (
+                    omega (arith, before.0, size),
+                    ap (λ l. takes (map state_of rows) t (forest_at (forests l) i)) e ∙ ap (takes (map state_of rows) t) (forest-grows old.recipes.items (r ∷ []) i before.0) ∙ before.1,
+                  )
+            ];
+      };
+      fewer = λ _. omega (arith, ap unplaced f, unplaced-set old.places.items s n in_places bare);
+      same = λ h. cc;
+      lacks = λ h. cc;
+    }
+
+pub tried_kept : (rows : List Row) (old new : Witnesses) (s : ℕ) → Knows rows old → new.recipes.items ≡ old.recipes.items → new.places.items ≡ old.places.items → ((r : Row) → slice_get rows s ≡ Some r → place old.places.items s ≡ None → Lacks r old.places.items)
+    → Tried rows old new s false
+tried_kept rows old new s k e f lacks = record {
+  knows = record {
+    len = ap length f ∙ k.len;
+    older = subst AreOlder (sym e) k.older;
+    sound = λ t i g.
+        let before = k.sound t i (ap (λ l. place l t) (sym f) ∙ g) in
+        (omega (arith, before.0, ap length e), ap (λ l. takes (map state_of rows) t (forest_at (forests l) i)) e ∙ before.1);
+  };
+  fewer = λ h. cc;
+  same = λ h. f;
+  lacks = λ h r at bare. subst (Lacks r) (sym f) (lacks r at (ap (λ l. place l s) (sym f) ∙ bare));
+}
+
+pub has_place : (rows : List Row) (places : List (Option ℕ)) (s : ℕ) (o : Option ℕ) → o ≡ place places s → IsTrue (is_some o) → (r : Row) → slice_get rows s ≡ Some r → place places s ≡ None → Lacks r places
+has_place rows places s None e t r at bare = cc
+has_place rows places s (Some i) e t r at bare = (let x : Some i ≡ None = e ∙ bare in cc)
+
+pub lacks_one : (rows : List Row) (places : List (Option ℕ)) (s : ℕ) (row : Row) → slice_get rows s ≡ Some row → Lacks row places → (r : Row) → slice_get rows s ≡ Some r → place places s ≡ None → Lacks r places
+lacks_one rows places s row at l r g bare = subst (λ x. Lacks x places) (some_is row r (sym at ∙ g)) l
+
+-- ---- rounds
+
+pub round_begins : (rows : List Row) (known : Witnesses) → Knows rows known → Round rows known known 0 false
+round_begins rows known k = record { knows = k; no_more = omega arith; fewer = λ h. cc; settled = λ h s r lt. absurd (omega (arith, lt)) }
+
+pub round_more : (rows : List Row) (a b c : Witnesses) (n : ℕ) (more : Bool) → Round rows a b n more → Tried rows b c n true → Round rows a c (n + 1) true
+round_more rows a b c n more x t = record {
+  knows = t.knows;
+  no_more = omega (arith, t.fewer refl, x.no_more);
+  fewer = λ h. omega (arith, t.fewer refl, x.no_more);
+  settled = λ h. cc;
+}
+
+pub round_same : (rows : List Row) (a b c : Witnesses) (n : ℕ) (more : Bool) → Round rows a b n more → Tried rows b c n false → Round rows a c (n + 1) more
+round_same rows a b c n more x t = record {
+  knows = t.knows;
+  no_more = omega (arith, ap unplaced (t.same refl), x.no_more);
+  fewer = λ h. omega (arith, ap unplaced (t.same refl), x.fewer h);
+  settled = λ h s r lt at bare. elim (below_or_not s n) [
+    | inl l ↦ subst (Lacks r) (sym (t.same refl)) (x.settled h s r l at (ap (λ p. place p s) (sym (t.same refl)) ∙ bare))
+    | inr l ↦
+        let here : s ≡ n = omega (arith, l, lt) in
+        t.lacks refl r (ap (slice_get rows) (sym here) ∙ at) (ap (place c.places.items) (sym here) ∙ bare)
+  ];
+}
+
+pub round_as : (rows : List Row) (a b : Witnesses) (n m : ℕ) (more : Bool) → m ≤ n → Round rows a b n more → Round rows a b m more
+round_as rows a b n m more le x = record { knows = x.knows; no_more = x.no_more; fewer = x.fewer; settled = λ h s r lt. x.settled h s r (omega (arith, lt, le)) }
+
+pub knows_none : (rows : List Row) (known : Witnesses) → known.recipes.items ≡ [] → length known.places.items ≡ length rows → ((s : ℕ) → place known.places.items s ≡ None) → Knows rows known
+knows_none rows known e len none = record {
+  len = len;
+  older = λ i r g. (let x : None ≡ Some r = ap (λ l. slice_get l i) (sym e) ∙ g in cc);
+  sound = λ s i g. (let x : None ≡ Some i = sym (none s) ∙ g in cc);
+}
+
+pub place_none : (places more : List (Option ℕ)) → ((s : ℕ) → place places s ≡ None) → more ≡ places ++ None ∷ [] → (s : ℕ) → place more s ≡ None
+place_none places more f e s = ap (λ l. place l s) e ∙ pushed places f s
+  where
+    pushed : (places : List (Option ℕ)) → ((s : ℕ) → place places s ≡ None) → (s : ℕ) → place (places ++ None ∷ []) s ≡ None
+    pushed [] f zero = refl
+    pushed [] f (suc s) = refl
+    pushed (o ∷ places) f zero = f zero
+    pushed (o ∷ places) f (suc s) = pushed places (λ t. f (suc t)) s
+
+-- ---- nothing is left out
+
+none_any : {A : Type 0} (p : A → Bool) (xs : List A) → ((i : ℕ) (x : A) → slice_get xs i ≡ Some x → p x ≡ false) → list_any p xs ≡ false
+none_any p [] f = refl
+none_any p (x ∷ xs) f = ap₂ (λ a b. a || b) (f 0 x refl) (none_any p xs (λ i y e. f (suc i) y e))
+
+not_left : (a b : Bool) → a ≡ false → a && b ≡ false
+not_left false b e = refl
+not_left true b e = cc
+
+not_right : (a b : Bool) → b ≡ false → a && b ≡ false
+not_right false b e = refl
+not_right true b e = e
+
+has-past : (f : State → Bool) (rows : List Row) (s : ℕ) → length rows ≤ s → has (map f (map state_of rows)) s ≡ false
+has-past f [] s le = refl
+has-past f (r ∷ rows) zero le = absurd (omega (arith, le))
+has-past f (r ∷ rows) (suc s) le = has-past f rows s (omega (arith, le))
+
+module _ (rows : List Row) (places : List (Option ℕ)) (settled : Settled rows places) where
+  -- a state that has no place takes no forest
+  abbrev Untaken : Plain → Type 0
+  Untaken v = (s : ℕ) → place places s ≡ None → takes (map state_of rows) s v ≡ false
+
+  atom_untaken : (k : AtomKind) (q : List Bool) → ((s : ℕ) → place places s ≡ None → has q s ≡ false) → (e : Edge) → recipe_by places e ≡ None → goes_by_atom k q e ≡ false
+  atom_untaken k q f (edge.Elem n c r) e = refl
+  atom_untaken k q f (edge.Atom a r) e =
+      elim (placed (place places r)) [
+        | inl bare ↦ not_right (same_kind a k) (has q r) (f r bare)
+        | inr p ↦ (let x : Some (Atom a p.0) ≡ None = ap (option_map (λ j. Atom a j)) (sym p.1) ∙ e in cc)
+      ]
+
+  element_untaken : (n : ℕ) (p q : List Bool) → ((s : ℕ) → place places s ≡ None → has p s ≡ false) → ((s : ℕ) → place places s ≡ None → has q s ≡ false) → (e : Edge) → recipe_by places e ≡ None → goes_by_element n p q e ≡ false
+  element_untaken n p q f g (edge.Atom a r) e = refl
+  element_untaken n p q f g (edge.Elem m c r) e =
+      elim (placed (place places c)) [
+        | inl bare ↦ not_right (m == n) (has p c && has q r) (not_left (has p c) (has q r) (f c bare))
+        | inr i ↦ elim (placed (place places r)) [
+          | inl bare ↦ not_right (m == n) (has p c && has q r) (not_right (has p c) (has q r) (g r bare))
+          | inr j ↦ (let x : Some (Elem m i.0 j.0) ≡ None = ap₂ (λ o l. option_and_then (λ i. option_map (λ j. Elem m i j) l) o) (sym i.1) (sym j.1) ∙ e in cc)
+        ]
+      ]
+
+  tree_untaken : (test : Edge → Bool) → ((e : Edge) → recipe_by places e ≡ None → test e ≡ false) → (s : ℕ) → place places s ≡ None → has (map (λ st. list_any test st.edges) (map state_of rows)) s ≡ false
+  tree_untaken test f s bare =
+      elim (below_or_not s (length rows)) [
+        | inr le ↦ has-past (λ st. list_any test st.edges) rows s le
+        | inl lt ↦
+            let r = got rows s lt in
+            let lacks = settled s r.0 lt r.1 bare in
+            has-map (λ st. list_any test st.edges) rows s r.0 r.1 ∙ none_any test r.0.edges.items (λ i e g. f e (lacks.1 i e g))
+      ]
+
+  pub untaken : (v : Plain) → Untaken v
+  untaken nil s bare =
+      elim (below_or_not s (length rows)) [
+        | inr le ↦ has-past (λ st. st.ends) rows s le
+        | inl lt ↦ let r = got rows s lt in has-map (λ st. st.ends) rows s r.0 r.1 ∙ (settled s r.0 lt r.1 bare).0
+      ]
+  untaken (elem _ n c r) s bare =
+      tree_untaken (goes_by_element n (profile (map state_of rows) c) (profile (map state_of rows) r)) (element_untaken n (profile (map state_of rows) c) (profile (map state_of rows) r) (untaken c) (untaken r)) s bare
+  untaken (leaf _ x r) s bare =
+      tree_untaken (goes_by_atom (kind_of x) (profile (map state_of rows) r)) (atom_untaken (kind_of x) (profile (map state_of rows) r) (untaken r)) s bare
+
+pub bare_of : (o : Option ℕ) → is_some o ≡ false → o ≡ None
+bare_of None e = refl
+bare_of (Some i) e = cc
+
+-- a state that has a place takes the forest there
+pub taken_at : (rows : List Row) (known : Witnesses) (s i : ℕ) (made : Draft (Unit {0})) → Knows rows known → place known.places.items s ≡ Some i → made ≡ done (forest_at (forests known.recipes.items) i) → IsTakenBy (map state_of rows) s (Some made)
+taken_at rows known s i made k e f = subst (λ m. IsWhole m × (takes (map state_of rows) s (outer m) ≡ true)) (sym f) (tt, (k.sound s i e).1)

@@ -1,0 +1,104 @@
+-- Forests that states take, told by recipes.
+use Rattle.std.specs.Prelude.{◌≡◌, ◌⊎◌, ℕ, ◌<◌, ◌≤◌, List, [], ◌∷◌, ◌++◌, Bool, true, false, Option, Some, None, length, map, slice_get, slice_index_or, option_and_then}
+use Rattle.std.proofs.Common.{suc}
+use Rattle.std.specs.Option.{option_map}
+use Rattle.flux_atom.specs.declared.atom.Atom.{Atom as Value}
+use Rattle.flux_atom.specs.declared.atom.Atom.TheVariants.{Bool as Truth, Text as Words}
+use Rattle.flux_atom.specs.declared.atom.AtomKind.{AtomKind}
+use Rattle.flux_atom.specs.declared.atom.AtomKind.TheVariants as kind
+use Rattle.flux_trees.specs.Hedge.{Plain, nil, elem, leaf}
+use Rattle.flux_trees.specs.Draft.{Draft, IsWhole, outer}
+use Rattle.flux_auto.specs.declared.edge.Edge.{Edge}
+use Rattle.flux_auto.specs.declared.edge.Edge.TheVariants as edge
+use Rattle.flux_auto.specs.declared.table.Row.{Row}
+use Rattle.flux_auto.specs.declared.witness.Recipe.{Recipe}
+use Rattle.flux_auto.specs.declared.witness.Recipe.TheVariants.{End, Atom, Elem}
+use Rattle.flux_auto.specs.declared.witness.Witnesses.{Witnesses}
+use Rattle.flux_auto.specs.Takes.{State, takes}
+use Rattle.flux_auto.specs.Built.{state_of}
+
+-- an atom of a kind
+abbrev pub sample : AtomKind → Value
+sample kind.Bool = Truth false
+sample kind.Text = Words []
+
+abbrev pub forest_at : List Plain → ℕ → Plain
+forest_at hs i = slice_index_or hs i nil
+
+-- the forest of a recipe, over those that were found before
+abbrev pub made : List Plain → Recipe → Plain
+made hs End = nil
+made hs (Atom k j) = leaf tt (sample k) (forest_at hs j)
+made hs (Elem n i j) = elem tt n (forest_at hs i) (forest_at hs j)
+
+abbrev pub forests_after : List Plain → List Recipe → List Plain
+forests_after hs [] = hs
+forests_after hs (r ∷ rs) = forests_after (hs ++ made hs r ∷ []) rs
+
+-- the forests of the recipes
+abbrev pub forests : List Recipe → List Plain
+forests rs = forests_after [] rs
+
+-- the recipe names places below i
+abbrev pub IsOlder : ℕ → Recipe → Type 0
+IsOlder i End = Unit {0}
+IsOlder i (Atom k j) = j < i
+IsOlder i (Elem n a b) = (a < i) × (b < i)
+
+abbrev pub AreOlder : List Recipe → Type 0
+AreOlder rs = (i : ℕ) (r : Recipe) → slice_get rs i ≡ Some r → IsOlder i r
+
+-- the place of a forest that a state takes
+abbrev pub place : List (Option ℕ) → ℕ → Option ℕ
+place places s = slice_index_or places s None
+
+-- the recipe of an edge whose states have places
+abbrev pub recipe_by : List (Option ℕ) → Edge → Option Recipe
+recipe_by places (edge.Atom k q) = option_map (λ j. Atom k j) (place places q)
+recipe_by places (edge.Elem n c q) = option_and_then (λ i. option_map (λ j. Elem n i j) (place places q)) (place places c)
+
+-- the recipe is of a state's end or of one of its edges
+abbrev pub IsRecipe : Row → List (Option ℕ) → Recipe → Type 0
+IsRecipe row places r = ((row.ends ≡ true) × (r ≡ End)) ⊎ ((i : ℕ) × (e : Edge) × (slice_get row.edges.items i ≡ Some e) × (recipe_by places e ≡ Some r))
+
+-- a state doesn't end, and no edge has a recipe
+abbrev pub Lacks : Row → List (Option ℕ) → Type 0
+Lacks row places = (row.ends ≡ false) × ((i : ℕ) (e : Edge) → slice_get row.edges.items i ≡ Some e → recipe_by places e ≡ None)
+
+-- how many states have no place
+abbrev pub unplaced : List (Option ℕ) → ℕ
+unplaced [] = 0
+unplaced (None ∷ places) = suc (unplaced places)
+unplaced (Some i ∷ places) = unplaced places
+
+-- each state that has a place takes the forest there
+pub record Knows (rows : List Row) (known : Witnesses) : Type 0 where
+  pub len : length known.places.items ≡ length rows
+  pub older : AreOlder known.recipes.items
+  pub sound : (s i : ℕ) → place known.places.items s ≡ Some i → (i < length known.recipes.items) × (takes (map state_of rows) s (forest_at (forests known.recipes.items) i) ≡ true)
+
+-- a state that has no place lacks a forest, as far as is known
+abbrev pub SettledBelow : List Row → List (Option ℕ) → ℕ → Type 0
+SettledBelow rows places n = (s : ℕ) (r : Row) → s < n → slice_get rows s ≡ Some r → place places s ≡ None → Lacks r places
+
+abbrev pub Settled : List Row → List (Option ℕ) → Type 0
+Settled rows places = SettledBelow rows places (length rows)
+
+-- a state was tried, and whether it has a place now that had none
+pub record Tried (rows : List Row) (old new : Witnesses) (s : ℕ) (more : Bool) : Type 0 where
+  pub knows : Knows rows new
+  pub fewer : more ≡ true → unplaced new.places.items < unplaced old.places.items
+  pub same : more ≡ false → new.places.items ≡ old.places.items
+  pub lacks : more ≡ false → (r : Row) → slice_get rows s ≡ Some r → place new.places.items s ≡ None → Lacks r new.places.items
+
+-- the states below n were tried
+pub record Round (rows : List Row) (old new : Witnesses) (n : ℕ) (more : Bool) : Type 0 where
+  pub knows : Knows rows new
+  pub no_more : unplaced new.places.items ≤ unplaced old.places.items
+  pub fewer : more ≡ true → unplaced new.places.items < unplaced old.places.items
+  pub settled : more ≡ false → SettledBelow rows new.places.items n
+
+-- a forest that is whole and taken by the state; none where the state takes no forest
+abbrev pub IsTakenBy : List State → ℕ → Option (Draft (Unit {0})) → Type 0
+IsTakenBy states s (Some d) = IsWhole d × (takes states s (outer d) ≡ true)
+IsTakenBy states s None = (v : Plain) → takes states s v ≡ false
