@@ -9,3 +9,6 @@ mod trees;
 mod witness;
 
 pub use profiles::Profiles;
+
+#[cfg(test)]
+mod tests;
