@@ -1,5 +1,5 @@
 // The profiles that are kept.
-ghost use Rattle.std.specs.Prelude.{◌≡◌, ◌↔◌, IfOk, IsTrue, false};
+ghost use Rattle.std.specs.Prelude.{◌≡◌, ◌↔◌, IfOk, IfSome, IfNone, IsTrue};
 ghost use Rattle.flux_subtype.specs.Kept.{Keeps, IsKept, IsFresh};
 
 use flux_atom::{AtomKind, Name};
@@ -27,25 +27,36 @@ fn is_same(left: &[bool], right: &[bool]) -> bool
     left == right
 }
 
-fn is_kept(kept: &[Kept], set: &[bool]) -> bool
-    ensures found { IsTrue result → IsKept kept.now set.now }
-    ensures fresh { result ≡ false → IsFresh kept.now set.now }
+// The place of a profile, if it is kept. One place is looked at first.
+fn place_of(kept: &[Kept], set: &[bool], first: usize) -> Option<usize>
+    ensures found { IfSome result (λ _. IsKept kept.now set.now) }
+    ensures none { IfNone result (IsFresh kept.now set.now) }
 {
+    if first < kept.len() && is_same(&kept[first].set, set) {
+        return Some(first);
+    }
     for index in 0..kept.len() {
         if is_same(&kept[index].set, set) {
-            return true;
+            return Some(index);
         }
     }
-    false
+    None
 }
 
-// Keeps a profile, unless it is kept already.
-pub(crate) fn keep(kept: &mut Vec<Kept>, set: Vec<bool>, from: Recipe) -> Result<(), AllocError>
+// Keeps a profile, unless it is kept already, and tells its place. A good guess of the place spares
+// a search.
+pub(crate) fn keep(
+    kept: &mut Vec<Kept>,
+    set: Vec<bool>,
+    from: Recipe,
+    guess: usize,
+) -> Result<usize, AllocError>
     ensures { IfOk result (λ _. Keeps kept.old.items set.items from kept.new.items) }
 {
-    if is_kept(kept, &set) {
-        return Ok(());
+    if let Some(place) = place_of(kept, &set, guess) {
+        return Ok(place);
     }
+    let place = kept.len();
     kept.push(Kept { set, from })?;
-    Ok(())
+    Ok(place)
 }

@@ -62,14 +62,15 @@ fn recipe(head: Head, rest: usize) -> Recipe
     }
 }
 
-// Keeps the profile of a tree and a rest, if some state takes them.
+// Keeps the profile of a tree and a rest, if some state takes them. Tells its place, or the guess.
 fn put(
     alloc: Global,
     auto: &Auto,
     kept: &mut Vec<Kept>,
     tree: &Tree,
     rest: usize,
-) -> Result<(), AllocError>
+    guess: usize,
+) -> Result<usize, AllocError>
     requires kept { AreKept auto.now.states kept.old.items }
     requires tree { MovesBy auto.now.states kept.old.items tree.now.head tree.now.moves.items }
     requires rest { rest < length kept.old.items }
@@ -77,14 +78,14 @@ fn put(
 {
     let behind = kept[rest].set.as_slice();
     if is_silent(&tree.moves, behind) {
-        return Ok(());
+        return Ok(guess);
     }
     let set = fired(alloc, auto, &tree.moves, behind)?;
-    keep(kept, set, recipe(tree.head, rest))?;
-    Ok(())
+    let place = keep(kept, set, recipe(tree.head, rest), guess)?;
+    Ok(place)
 }
 
-// Keeps the profiles of a tree before each of a range of profiles.
+// Keeps the profiles of a tree before each of a range of profiles, and tells the last one's place.
 fn fill(
     alloc: Global,
     auto: &Auto,
@@ -92,26 +93,43 @@ fn fill(
     tree: &Tree,
     from: usize,
     to: usize,
-) -> Result<(), AllocError>
+    guess: usize,
+) -> Result<usize, AllocError>
     requires kept { AreKept auto.now.states kept.old.items }
     requires tree { MovesBy auto.now.states kept.old.items tree.now.head tree.now.moves.items }
     requires from { from ≤ to }
     requires to { to ≤ length kept.old.items }
     ensures { IfOk result (λ _. Fills auto.now.states kept.old.items kept.new.items tree.now.moves.items from to) }
 {
+    let mut place = guess;
     for rest in from..to {
-        put(alloc, auto, kept, tree, rest)?;
+        place = put(alloc, auto, kept, tree, rest, place)?;
+    }
+    Ok(place)
+}
+
+// The place where the profile of a tree was put last.
+fn last_of(lasts: &[usize], index: usize) -> usize {
+    lasts.get(index).copied().unwrap_or(0)
+}
+
+fn set_last(lasts: &mut Vec<usize>, index: usize, place: usize) -> Result<(), AllocError> {
+    if index < lasts.len() {
+        lasts[index] = place;
+    } else {
+        lasts.push(place)?;
     }
     Ok(())
 }
 
 // Keeps the profiles of each tree before each profile up to one, where those of the trees that were
-// there before and of earlier profiles are kept.
+// there before and of earlier profiles are kept. Of each tree it notes where its profile is.
 fn fill_all(
     alloc: Global,
     auto: &Auto,
     kept: &mut Vec<Kept>,
     trees: &[Tree],
+    lasts: &mut Vec<usize>,
     before: usize,
     done: usize,
 ) -> Result<(), AllocError>
@@ -123,7 +141,9 @@ fn fill_all(
 {
     for index in 0..trees.len() {
         let from = if index < before { done } else { 0 };
-        fill(alloc, auto, kept, &trees[index], from, done + 1)?;
+        let guess = last_of(lasts, index);
+        let last = fill(alloc, auto, kept, &trees[index], from, done + 1, guess)?;
+        set_last(lasts, index, last)?;
     }
     Ok(())
 }
@@ -135,6 +155,7 @@ fn turn(
     groups: &[Group],
     kept: &mut Vec<Kept>,
     trees: &mut Vec<Tree>,
+    lasts: &mut Vec<usize>,
     done: usize,
 ) -> Result<(), AllocError>
     requires so_far { IsDone auto.now.states kept.old.items trees.old.items done }
@@ -144,7 +165,7 @@ fn turn(
 {
     let before = trees.len();
     add_elements(alloc, groups, &kept[done].set, done, trees)?;
-    fill_all(alloc, auto, kept, trees, before, done)?;
+    fill_all(alloc, auto, kept, trees, lasts, before, done)?;
     Ok(())
 }
 
@@ -182,6 +203,7 @@ fn saturate(
     requires groups { IndexesGroups auto.now.states groups.now }
     ensures { IfOk result (IsAnswer auto.now.states kept.new.items left right) }
 {
+    let mut lasts = Vec::new(alloc);
     let mut done = 0;
     let mut seen = 0;
     while done < kept.len() {
@@ -189,7 +211,7 @@ fn saturate(
             return Ok(Some(index));
         }
         seen = kept.len();
-        turn(alloc, auto, groups, kept, trees, done)?;
+        turn(alloc, auto, groups, kept, trees, &mut lasts, done)?;
         done += 1;
     }
     Ok(None)
@@ -214,6 +236,6 @@ pub(crate) fn search(
     let mut trees = Vec::new(alloc);
     add_tree(&mut trees, Head::Atom(AtomKind::Bool), bools)?;
     add_tree(&mut trees, Head::Atom(AtomKind::Text), texts)?;
-    keep(kept, nil_profile(alloc, auto)?, Recipe::Nothing)?;
+    keep(kept, nil_profile(alloc, auto)?, Recipe::Nothing, 0)?;
     saturate(alloc, auto, &groups, left, right, kept, &mut trees)
 }

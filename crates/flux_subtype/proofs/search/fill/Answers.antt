@@ -16,7 +16,7 @@ pub put-requires-clause-rest : goal.put-requires-clause-rest
 put-requires-clause-rest c = within-grows _ _ _ c.loop-rest.invariant.grows (omega arith)
 
 pub loop-rest-preserved : goal.loop-rest-preserved
-loop-rest-preserved c = next_fill _ _ _ _ _ _ _ c.loop-rest.invariant (omega arith) c.in_ok-put.ensures
+loop-rest-preserved c = next_fill _ _ _ _ _ _ _ c.loop-rest.invariant (omega arith) c.in_ok-place.ensures
 
 pub returns : goal.returns
 returns c =

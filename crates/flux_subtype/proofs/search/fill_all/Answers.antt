@@ -19,4 +19,4 @@ loop-index-preserved c =
       | then-index-before w ↦ inl (w.if-index-before.true, w.from-is)
       | else-index-before w ↦ inr w.from-is
     ] in
-    next_fill_all _ _ _ _ _ _ _ _ _ t c.requires.done c.requires.answered c.loop-index.invariant (read_is c.args.trees.now c.loop-index.index t t c.loop-index-test.true c.index-trees-index.is) begins c.in_ok-fill.ensures
+    next_fill_all _ _ _ _ _ _ _ _ _ t c.requires.done c.requires.answered c.loop-index.invariant (read_is c.args.trees.now c.loop-index.index t t c.loop-index-test.true c.index-trees-index.is) begins c.in_ok-last.ensures

@@ -19,4 +19,4 @@ returns c =
     let q = set_at-read c.args.kept.now.items c.args.rest c.index.result.now c.index.result.now c.as_slice-behind.result.now c.requires.rest c.index.ensures c.as_slice-behind.ensures.value in
     puts _ _ _ c.args.tree.now.head _ _ c.in_ok-set.set.items c.requires.kept c.requires.tree c.requires.rest c.in_ok-set.ensures.long
     (subst (λ p. Fires c.args.tree.now.moves.items p c.in_ok-set.set.items) q (subst (λ ms. Fires ms c.as_slice-behind.result.now c.in_ok-set.set.items) c.deref-2.ensures.value c.in_ok-set.ensures.fires))
-    (subst (λ r. Keeps c.args.kept.now.items c.in_ok-set.set.items r c.keep.new.kept.items) c.recipe.ensures c.in_ok-keep.ensures)
+    (subst (λ r. Keeps c.args.kept.now.items c.in_ok-set.set.items r c.keep.new.kept.items) c.recipe.ensures c.in_ok-place.ensures)
