@@ -1,0 +1,10 @@
+pub mod Places
+pub mod GoingLaws
+pub mod KeptLaws
+pub mod CoverLaws
+pub mod IndexLaws
+pub mod Firing
+pub mod Turning
+pub mod Many
+pub mod Performing
+pub mod Searching

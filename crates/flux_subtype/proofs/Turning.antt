@@ -1,0 +1,261 @@
+-- What a turn of the search leaves.
+use Rattle.std.proofs.Common.{◌≡◌, ◌⊎◌, ℕ, zero, suc, ◌+◌, ◌<◌, ◌≤◌, List, [], ◌∷◌, ◌++◌, length, take, Bool, Some, slice_get, refl, sym, ap, subst, ◌∙◌, inl, inr, arith, get_or}
+use Rattle.std.specs.Option.{option_map}
+use Rattle.std.proofs.lemmas.Option.{slice_get_within}
+use Rattle.flux_atom.specs.declared.atom.AtomKind.{AtomKind}
+use Rattle.flux_atom.specs.declared.atom.AtomKind.TheVariants as kind
+use Rattle.flux_atom.specs.Atom.{kind_of}
+use Rattle.flux_trees.specs.Hedge.{nil, elem, leaf}
+use Rattle.flux_auto.specs.declared.edge.Edge.{Edge}
+use Rattle.flux_auto.specs.Takes.{State, profile_nil}
+use Rattle.flux_subtype.specs.declared.index.Move.{Move}
+use Rattle.flux_subtype.specs.declared.index.Group.{Group}
+use Rattle.flux_subtype.specs.declared.kept.Kept.{Kept}
+use Rattle.flux_subtype.specs.declared.trees.Head.{Head}
+use Rattle.flux_subtype.specs.declared.trees.Head.TheVariants.{Atom, Elem}
+use Rattle.flux_subtype.specs.declared.trees.Tree.{Tree}
+use Rattle.flux_subtype.specs.Going.{Has, IsProfile}
+use Rattle.flux_subtype.specs.Index.{ByAtom, ByElement, ByLinks, IndexesGroups}
+use Rattle.flux_subtype.specs.Kept.{sample, set_of, made, forests_after, forest_at, set_at, NamesEarlier, AreKept, Grows, Keeps}
+use Rattle.flux_subtype.specs.Search.{Fires, IsSilent, MovesBy, AreTrees, Stands, TreesGrow, AddsTree, IsElementOf, AddsElements, LabelsDone, Answered, AllAnswered, AnsweredBelow, recipe_of, Puts, Fills, FillsAll, IsDone, Turned}
+use Rattle.flux_subtype.proofs.Places.{read_is, has-last, has-push, has-nil, some_is, below_or_at, same_or_not, grows-refl, grows-trans, grows-length, grows-get, grows-has}
+use Rattle.flux_subtype.proofs.GoingLaws.{element_moves, fires_profile}
+use Rattle.flux_subtype.proofs.IndexLaws.{no_group}
+use Rattle.flux_subtype.proofs.KeptLaws.{grows-set_at, keeps_more}
+
+-- ---- the empty forest
+
+ends_next : (a : List State) (s : ℕ) (b : Bool) → option_map (λ (st : State). st.ends) (slice_get a s) ≡ Some b → profile_nil (take (suc s) a) ≡ profile_nil (take s a) ++ b ∷ []
+ends_next [] s b e = cc
+ends_next (st ∷ a) zero b e = ap (λ x. x ∷ []) (some_is st.ends b e)
+ends_next (st ∷ a) (suc s) b e = ap (λ l. st.ends ∷ l) (ends_next a s b e)
+
+pub nil_next : (a : List State) (s : ℕ) (b : Bool) (p q : List Bool) → p ≡ profile_nil (take s a) → option_map (λ (st : State). st.ends) (slice_get a s) ≡ Some b → q ≡ p ++ b ∷ [] → q ≡ profile_nil (take (s + 1) a)
+nil_next a s b p q is e f = f ∙ ap (λ l. l ++ b ∷ []) is ∙ sym (ends_next a s b e) ∙ ap (λ n. profile_nil (take n a)) (let h : suc s ≡ s + 1 = omega arith in h)
+
+-- ---- a tree and a rest
+
+pub moves_inside : (a : List State) (ks : List Kept) (head : Head) (moves : List Move) → MovesBy a ks head moves → (m : Move) → Has moves m → m.from < length a
+moves_inside a ks (Atom k) moves by m h = let e = (by m.from m.to).0 h in slice_get_within a m.from e.0 e.1
+moves_inside a ks (Elem n c) moves by m h = let e = (by.1 m.from m.to).0 h in slice_get_within a m.from e.1.0 e.1.1
+
+kind-sample : (k : AtomKind) → kind_of (sample k) ≡ k
+kind-sample kind.Bool = refl
+kind-sample kind.Text = refl
+
+names_earlier : (a : List State) (ks : List Kept) (head : Head) (moves : List Move) (r : ℕ) → MovesBy a ks head moves → r < length ks → NamesEarlier (length ks) (recipe_of head r)
+names_earlier a ks (Atom k) moves r by h = h
+names_earlier a ks (Elem n c) moves r by h = (by.0, h)
+
+recipe_profile : (a : List State) (ks : List Kept) (head : Head) (moves : List Move) (r : ℕ) (p : List Bool) → AreKept a ks → MovesBy a ks head moves → r < length ks → Fires moves (set_at ks r) p
+    → IsProfile a p (made (forests_after [] ks) (recipe_of head r))
+recipe_profile a ks (Atom k) moves r p are by h f =
+    fires_profile a moves (set_at ks r) p (leaf tt (sample k) (forest_at ks r)) (subst (λ x. ByAtom a x moves) (sym (kind-sample k)) by) (λ e. cc) (are.profiles r h) f
+recipe_profile a ks (Elem n c) moves r p are by h f =
+    fires_profile a moves (set_at ks r) p (elem tt n (forest_at ks c) (forest_at ks r)) (element_moves a n (set_at ks c) moves (forest_at ks c) (forest_at ks r) by.1 (are.profiles c by.0)) (λ e. cc) (are.profiles r h) f
+
+pub puts_silent : (a : List State) (ks : List Kept) (moves : List Move) (q : List Bool) → AreKept a ks → IsSilent moves q → Puts a ks ks moves q
+puts_silent a ks moves q are silent = record { kept = are; grows = grows-refl ks; answered = inl silent }
+
+pub puts : (a : List State) (ks ls : List Kept) (head : Head) (moves : List Move) (r : ℕ) (p : List Bool) → AreKept a ks → MovesBy a ks head moves → r < length ks → length p ≡ length a → Fires moves (set_at ks r) p
+    → Keeps ks p (recipe_of head r) ls → Puts a ks ls moves (set_at ks r)
+puts a ks ls head moves r p are by h long f keeps =
+    let k = keeps_more a ks ls p (recipe_of head r) are (names_earlier a ks head moves r by h) (recipe_profile a ks head moves r p are by h f) long keeps in
+    record { kept = k.kept; grows = k.grows; answered = inr (k.there.0, k.there.1, subst (Fires moves (set_at ks r)) (sym k.there.2) f) }
+
+pub set_at-read : (ks : List Kept) (i : ℕ) (k d : Kept) (p : List Bool) → i < length ks → k ≡ get_or ks i d → p ≡ k.set.items → p ≡ set_at ks i
+set_at-read ks i k d p h e f = f ∙ ap set_of (sym (read_is ks i k d h e))
+
+-- ---- as more is kept
+
+pub moves_by-grows : (a : List State) (ks ls : List Kept) (head : Head) (moves : List Move) → Grows ks ls → MovesBy a ks head moves → MovesBy a ls head moves
+moves_by-grows a ks ls (Atom k) moves g by = by
+moves_by-grows a ks ls (Elem n c) moves g by =
+    ((let le = grows-length ks ls g in let l = by.0 in omega (arith, le, l)), subst (λ p. ByElement a n p moves) (sym (grows-set_at ks ls c g by.0)) by.1)
+
+answered-grows : (ks ls : List Kept) (moves : List Move) (q : List Bool) → Grows ks ls → Answered ks moves q → Answered ls moves q
+answered-grows ks ls moves q g (inl silent) = inl silent
+answered-grows ks ls moves q g (inr (i, l, f)) = inr (i, (let le = grows-length ks ls g in omega (arith, le, l)), subst (Fires moves q) (sym (grows-set_at ks ls i g l)) f)
+
+answered_at-grows : (ks ls : List Kept) (moves : List Move) (i : ℕ) → Grows ks ls → i < length ks → Answered ks moves (set_at ks i) → Answered ls moves (set_at ls i)
+answered_at-grows ks ls moves i g l h = answered-grows ks ls moves (set_at ls i) g (subst (Answered ks moves) (sym (grows-set_at ks ls i g l)) h)
+
+pub within-grows : (ks ls : List Kept) (i : ℕ) → Grows ks ls → i < length ks → i < length ls
+within-grows ks ls i g h = let le = grows-length ks ls g in omega (arith, le, h)
+
+-- ---- a tree before a range of profiles
+
+pub no_fill : (a : List State) (ks : List Kept) (moves : List Move) (i : ℕ) → AreKept a ks → Fills a ks ks moves i i
+no_fill a ks moves i are = record { kept = are; grows = grows-refl ks; answered = λ k le lt. absurd (omega (arith, le, lt)) }
+
+pub next_fill : (a : List State) (ks ls ms : List Kept) (moves : List Move) (i j : ℕ) → Fills a ks ls moves i j → j < length ks → Puts a ls ms moves (set_at ls j) → Fills a ks ms moves i (j + 1)
+next_fill a ks ls ms moves i j before l put = record {
+  kept = put.kept;
+  grows = grows-trans ks ls ms before.grows put.grows;
+  answered = λ k le lt. at k le (below_or_at k j lt);
+}
+  where
+    at : (k : ℕ) → i ≤ k → (k < j) ⊎ (k ≡ j) → Answered ms moves (set_at ms k)
+    at k le (inl lt) = answered_at-grows ls ms moves k put.grows (within-grows ks ls k before.grows (omega (arith, lt, l))) (before.answered k le lt)
+    at k le (inr e) =
+        subst (λ x. Answered ms moves (set_at ms x)) (sym e)
+        (subst (Answered ms moves) (sym (grows-set_at ls ms j put.grows (within-grows ks ls j before.grows l))) put.answered)
+
+-- ---- every tree
+
+pub no_fill_all : (a : List State) (ks : List Kept) (ts : List Tree) (n : ℕ) → AreKept a ks → FillsAll a ks ks ts n 0
+no_fill_all a ks ts n are = record { kept = are; grows = grows-refl ks; answered = λ k i t lt. absurd (omega (arith, lt)) }
+
+-- the tree was before each profile below n, or is put before it now
+abbrev pub Begins : ℕ → ℕ → ℕ → ℕ → Type 0
+Begins k before n from = ((k < before) × (from ≡ n)) ⊎ (from ≡ 0)
+
+pub next_fill_all : (a : List State) (ks ls ms : List Kept) (ts : List Tree) (n m before from : ℕ) (t : Tree) → n < length ks → AnsweredBelow ks ts before n → FillsAll a ks ls ts n m → slice_get ts m ≡ Some t
+    → Begins m before n from → Fills a ls ms t.moves.items from (n + 1) → FillsAll a ks ms ts n (m + 1)
+next_fill_all a ks ls ms ts n m before from t inside old so_far is begins fill = record {
+  kept = fill.kept;
+  grows = grows;
+  answered = λ k i u lt at l. one k i u at l (below_or_at k m lt);
+}
+  where
+    grows : Grows ks ms
+    grows = grows-trans ks ls ms so_far.grows fill.grows
+
+    here : (i : ℕ) → i < n + 1 → (from ≤ i) ⊎ ((i < n) × (m < before))
+    here i l = elim begins [
+      | inr e ↦ inl (omega (arith, e))
+      | inl p ↦ elim (below_or_at i n l) [ inl lt ↦ inr (lt, p.0) | inr e ↦ inl (let f = p.1 in omega (arith, e, f)) ]
+    ]
+
+    same : (i : ℕ) → i < n + 1 → Answered ms t.moves.items (set_at ms i)
+    same i l = elim (here i l) [
+      | inl le ↦ fill.answered i le l
+      | inr p ↦ answered_at-grows ks ms t.moves.items i grows (let lt = p.0 in omega (arith, lt, inside)) (old m i t p.1 is p.0)
+    ]
+
+    one : (k i : ℕ) (u : Tree) → slice_get ts k ≡ Some u → i < n + 1 → (k < m) ⊎ (k ≡ m) → Answered ms u.moves.items (set_at ms i)
+    one k i u at l (inl lt) = answered_at-grows ls ms u.moves.items i fill.grows (within-grows ks ls i so_far.grows (omega (arith, l, inside))) (so_far.answered k i u lt at l)
+    one k i u at l (inr e) = subst (λ (z : Tree). Answered ms z.moves.items (set_at ms i)) (some_is t u (sym is ∙ ap (slice_get ts) (sym e) ∙ at)) (same i l)
+
+-- ---- trees
+
+pub stands-grows : (ts us : List Tree) (moves : List Move) → TreesGrow ts us → Stands ts moves → Stands us moves
+stands-grows ts us moves g (inl e) = inl e
+stands-grows ts us moves g (inr (t, h, e)) = inr (t, grows-has ts us t g h, e)
+
+pub tree_answers : (ks : List Kept) (ts us : List Tree) (n : ℕ) → TreesGrow ts us → AllAnswered ks ts n → AnsweredBelow ks us (length ts) n
+tree_answers ks ts us n g all k i t lt at l = all t i (k, sym (grows-get ts us k g lt) ∙ at) l
+
+pub element_moves_by : (a : List State) (groups : List Group) (n : ℕ) (p : List Bool) (moves : List Move) → IndexesGroups a groups → ByLinks groups n p moves → ByElement a n p moves
+element_moves_by a groups n p moves is by s r = (
+  (λ h. let q = (by s r).0 h in (q.0, (is.links s n q.0 r).0 q.1, q.2)),
+  (λ h. (by s r).1 (h.0, (is.links s n h.0 r).1 h.1, h.2)),
+)
+
+pub added_trees : (a : List State) (groups : List Group) (ks : List Kept) (ts us : List Tree) (n : ℕ) → IndexesGroups a groups → n < length ks → AreTrees a ks ts → AddsElements groups (set_at ks n) n ts us → AreTrees a ks us
+added_trees a groups ks ts us n is inside trees adds t h = elim (adds.new t h) [
+  | inl old ↦ trees t old
+  | inr (m, e, by) ↦ subst (λ head. MovesBy a ks head t.moves.items) (sym e) (inside, element_moves_by a groups m (set_at ks n) t.moves.items is by)
+]
+
+pub trees-grow : (a : List State) (ks ls : List Kept) (ts : List Tree) → Grows ks ls → AreTrees a ks ts → AreTrees a ls ts
+trees-grow a ks ls ts g trees t h = moves_by-grows a ks ls t.head t.moves.items g (trees t h)
+
+pub turned : (a : List State) (groups : List Group) (ks ls : List Kept) (ts us : List Tree) (n : ℕ) → IndexesGroups a groups → n < length ks → IsDone a ks ts n → AddsElements groups (set_at ks n) n ts us
+    → FillsAll a ks ls us n (length us) → Turned a ks ls us n
+turned a groups ks ls ts us n is inside done adds fill = record {
+  grows = fill.grows;
+  done = record {
+    kept = fill.kept;
+    trees = trees-grow a ks ls us fill.grows (added_trees a groups ks ts us n is inside done.trees adds);
+    first = (done.first.0, within-grows ks ls done.first.0 fill.grows done.first.1, subst (λ p. IsProfile a p nil) (sym (grows-set_at ks ls done.first.0 fill.grows done.first.1)) done.first.2);
+    kinds = λ k. let m = done.kinds k in (m.0, m.1, stands-grows ts us m.0 adds.grows m.2);
+    labels = λ i l. at i (below_or_at i n l);
+    answered = λ t i h l. fill.answered h.0 i t (slice_get_within us h.0 t h.1) h.1 l;
+  };
+}
+  where
+    at : (i : ℕ) → (i < n) ⊎ (i ≡ n) → LabelsDone a us (set_at ls i)
+    at i (inl lt) = subst (LabelsDone a us) (sym (grows-set_at ks ls i fill.grows (omega (arith, lt, inside))))
+        (λ m. let x = done.labels i lt m in (x.0, x.1, stands-grows ts us x.0 adds.grows x.2))
+    at i (inr e) = subst (λ j. LabelsDone a us (set_at ls j)) (sym e) (subst (LabelsDone a us) (sym (grows-set_at ks ls n fill.grows inside))
+        (λ m. let x = adds.stand m in (x.0, element_moves_by a groups m (set_at ks n) x.0 is x.1, x.2)))
+
+-- ---- trees are added
+
+pub adds_none : (ts : List Tree) (head : Head) (moves : List Move) → moves ≡ [] → AddsTree ts ts head moves
+adds_none ts head moves e = record { grows = grows-refl ts; stands = inl e; new = λ t h. inl h }
+
+pub adds_known : (ts : List Tree) (head : Head) (moves : List Move) → (t : Tree) × Has ts t × (t.moves.items ≡ moves) → AddsTree ts ts head moves
+adds_known ts head moves k = record { grows = grows-refl ts; stands = inr k; new = λ t h. inl h }
+
+pub adds_new : (ts us : List Tree) (t : Tree) → us ≡ ts ++ t ∷ [] → AddsTree ts us t.head t.moves.items
+adds_new ts us t e = record {
+  grows = (t ∷ [], e);
+  stands = inr (t, subst (λ l. Has l t) (sym e) (has-last ts t), refl);
+  new = λ u h. elim (has-push ts t u (subst (λ l. Has l u) e h)) [ inl old ↦ inl old | inr same ↦ inr (ap (λ (z : Tree). z.head) (sym same), ap (λ (z : Tree). z.moves.items) (sym same)) ];
+}
+
+pub empty_list : (moves : List Move) → length moves ≡ 0 → moves ≡ []
+empty_list [] e = refl
+empty_list (m ∷ moves) e = absurd (omega (arith, e))
+
+-- elements of the labels of the first k groups
+pub record AddsBelow (groups : List Group) (p : List Bool) (c : ℕ) (ts us : List Tree) (k : ℕ) : Type 0 where
+  pub grows : TreesGrow ts us
+  pub stand : (j : ℕ) (g : Group) → j < k → slice_get groups j ≡ Some g → (moves : List Move) × ByLinks groups g.label p moves × Stands us moves
+  pub new : (t : Tree) → Has us t → Has ts t ⊎ IsElementOf groups p c t
+
+pub adds_below_none : (groups : List Group) (p : List Bool) (c : ℕ) (ts : List Tree) → AddsBelow groups p c ts ts 0
+adds_below_none groups p c ts = record { grows = grows-refl ts; stand = λ j g l. absurd (omega (arith, l)); new = λ t h. inl h }
+
+pub adds_below_next : (groups : List Group) (p : List Bool) (c : ℕ) (ts us vs : List Tree) (k : ℕ) (g : Group) (moves : List Move) → AddsBelow groups p c ts us k → slice_get groups k ≡ Some g
+    → ByLinks groups g.label p moves → AddsTree us vs (Elem g.label c) moves → AddsBelow groups p c ts vs (k + 1)
+adds_below_next groups p c ts us vs k g moves before is by adds = record {
+  grows = grows-trans ts us vs before.grows adds.grows;
+  stand = λ j h l at. stand j h at (below_or_at j k l);
+  new = λ t h. elim (adds.new t h) [
+    | inl old ↦ before.new t old
+    | inr e ↦ inr (g.label, e.0, subst (ByLinks groups g.label p) (sym e.1) by)
+  ];
+}
+  where
+    stand : (j : ℕ) (h : Group) → slice_get groups j ≡ Some h → (j < k) ⊎ (j ≡ k) → (ms : List Move) × ByLinks groups h.label p ms × Stands vs ms
+    stand j h at (inl lt) = let x = before.stand j h lt at in (x.0, x.1, stands-grows us vs x.0 adds.grows x.2)
+    stand j h at (inr e) = (moves, subst (λ (z : Group). ByLinks groups z.label p moves) (some_is g h (sym is ∙ ap (slice_get groups) (sym e) ∙ at)) by, adds.stands)
+
+labelled : (groups : List Group) (n : ℕ) → ((g : Group) × Has groups g × (g.label ≡ n)) ⊎ ((g : Group) → Has groups g → g.label ≡ n → ⊥)
+labelled [] n = inr (λ g h. absurd (has-nil g h))
+labelled (g ∷ groups) n = elim (same_or_not g.label n) [
+  | inl e ↦ inl (g, (0, refl), e)
+  | inr ne ↦ elim (labelled groups n) [
+    | inl h ↦ inl (h.0, (suc h.1.0, h.1.1), h.2)
+    | inr none ↦ inr (λ x h. not_here g groups n x ne none h)
+  ]
+]
+  where
+    not_here : (g : Group) (groups : List Group) (n : ℕ) (x : Group) → (g.label ≡ n → ⊥) → ((y : Group) → Has groups y → y.label ≡ n → ⊥) → Has (g ∷ groups) x → x.label ≡ n → ⊥
+    not_here g groups n x ne none (zero, k) e = ne (ap (λ (z : Group). z.label) (some_is g x k) ∙ e)
+    not_here g groups n x ne none (suc i, k) e = none x (i, k) e
+
+pub adds_all : (groups : List Group) (p : List Bool) (c : ℕ) (ts us : List Tree) (k : ℕ) → length groups ≤ k → AddsBelow groups p c ts us k → AddsElements groups p c ts us
+adds_all groups p c ts us k le below = record {
+  grows = below.grows;
+  stand = λ n. elim (labelled groups n) [
+    | inl h ↦
+        let x = below.stand h.1.0 h.0 (let l = slice_get_within groups h.1.0 h.0 h.1.1 in omega (arith, l, le)) h.1.1 in
+        (x.0, subst (λ m. ByLinks groups m p x.0) h.2 x.1, x.2)
+    | inr none ↦ ([], no_group groups n p none, inl refl)
+  ];
+  new = below.new;
+}
+
+-- ---- a state's edges
+
+pub edges_at : (a : List State) (s : ℕ) (es : List Edge) → option_map (λ (st : State). st.edges) (slice_get a s) ≡ Some es → (st : State) × (slice_get a s ≡ Some st) × (st.edges ≡ es)
+edges_at [] s es e = cc
+edges_at (st ∷ a) zero es e = (st, refl, some_is st.edges es e)
+edges_at (st ∷ a) (suc s) es e = edges_at a s es e
+
+pub added_at : (groups : List Group) (ks : List Kept) (n : ℕ) (k d : Kept) (p : List Bool) (ts us : List Tree) → n < length ks → k ≡ get_or ks n d → p ≡ k.set.items → AddsElements groups p n ts us → AddsElements groups (set_at ks n) n ts us
+added_at groups ks n k d p ts us l e f adds = subst (λ q. AddsElements groups q n ts us) (set_at-read ks n k d p l e f) adds

@@ -1,0 +1,16 @@
+use Rattle.std.proofs.Common.{sym, subst, length, arith}
+use Rattle.flux_subtype.specs.Index.{AddsEdges}
+use Rattle.flux_subtype.proofs.IndexLaws.{next_state, no_states, all_states}
+use Rattle.flux_subtype.proofs.Turning.{edges_at}
+use Rattle.flux_subtype.proofs.index.index_of.Goals as goal
+
+pub loop-state-init : goal.loop-state-init
+loop-state-init c = no_states _ _ c.new.ensures.items c.new-2.ensures.items c.new-3.ensures.items
+
+pub loop-state-preserved : goal.loop-state-preserved
+loop-state-preserved c =
+    let e = edges_at c.args.auto.now.states c.loop-state.state c.edges.result.now c.edges.ensures in
+    next_state _ _ _ _ e.0 c.loop-state.invariant e.1 (subst (λ es. AddsEdges c.loop-state.index c.add_edges.new.index c.loop-state.state es (length es)) (sym e.2) c.in_ok-add_edges.ensures)
+
+pub returns : goal.returns
+returns c = all_states c.args.auto.now.states c.loop-state.index c.loop-state.state (omega (arith, c.loop-state-test.false, c.states-end.ensures.count)) c.loop-state.invariant

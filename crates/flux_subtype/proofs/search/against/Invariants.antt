@@ -1,0 +1,6 @@
+use Rattle.std.proofs.Common.{ℕ, ◌<◌, ◌≤◌}
+use Rattle.flux_subtype.specs.Search.{IsAgainst}
+use Rattle.flux_subtype.proofs.search.against.Given as goal
+
+abbrev pub invariant-loop-index : goal.invariant-loop-index
+invariant-loop-index l = (i : ℕ) → l.from ≤ i → i < l.index → IsAgainst l.kept l.left l.right i → ⊥

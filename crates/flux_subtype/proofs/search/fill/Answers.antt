@@ -1,0 +1,24 @@
+use Rattle.std.proofs.Common.{◌≡◌, arith, subst}
+use Rattle.flux_subtype.specs.Search.{Fills}
+use Rattle.flux_subtype.proofs.Turning.{no_fill, next_fill, moves_by-grows, within-grows}
+use Rattle.flux_subtype.proofs.search.fill.Goals as goal
+
+pub loop-rest-init : goal.loop-rest-init
+loop-rest-init c = no_fill _ _ _ _ c.requires.kept
+
+pub put-requires-clause-kept : goal.put-requires-clause-kept
+put-requires-clause-kept c = c.loop-rest.invariant.kept
+
+pub put-requires-clause-tree : goal.put-requires-clause-tree
+put-requires-clause-tree c = moves_by-grows _ _ _ _ _ c.loop-rest.invariant.grows c.requires.tree
+
+pub put-requires-clause-rest : goal.put-requires-clause-rest
+put-requires-clause-rest c = within-grows _ _ _ c.loop-rest.invariant.grows (omega arith)
+
+pub loop-rest-preserved : goal.loop-rest-preserved
+loop-rest-preserved c = next_fill _ _ _ _ _ _ _ c.loop-rest.invariant (omega arith) c.in_ok-place.ensures
+
+pub returns : goal.returns
+returns c =
+    let e : c.loop-rest.rest ≡ c.args.to = omega (arith, c.loop-rest.auto.rest-end) in
+    subst (λ j. Fills c.args.auto.now.states c.args.kept.now.items c.loop-rest.kept.items c.args.tree.now.moves.items c.args.from j) e c.loop-rest.invariant

@@ -1,0 +1,19 @@
+use Rattle.std.proofs.Common.{◌≡◌, length, arith}
+use Rattle.flux_subtype.proofs.Places.{grows-length}
+use Rattle.flux_subtype.proofs.Many.{few_kept}
+use Rattle.flux_subtype.proofs.Searching.{next_seen, answered_none}
+use Rattle.flux_subtype.proofs.search.saturate.Goals as goal
+
+pub loop-done-smaller : goal.loop-done-smaller
+loop-done-smaller c = omega (arith, few_kept c.args.auto.now.states c.loop-done.kept.items c.loop-done.invariant.so_far.kept)
+
+pub loop-done-preserved : goal.loop-done-preserved
+loop-done-preserved c = record {
+  so_far = c.in_ok-turn.ensures.done;
+  behind = omega arith;
+  there = (let le = grows-length c.loop-done.kept.items c.turn.new.kept.items c.in_ok-turn.ensures.grows in omega (arith, le, c.len-seen.ensures));
+  none = next_seen c.loop-done.kept.items c.deref.result.now c.turn.new.kept.items c.args.left c.args.right c.loop-done.seen c.len-seen.result c.deref.ensures.value (let e : c.len-seen.result ≡ length c.loop-done.kept.items = omega (arith, c.len-seen.ensures, c.loop-done.kept.ok) in e) c.in_ok-turn.ensures.grows c.loop-done.invariant.none c.in_default.ensures.none;
+}
+
+pub returns : goal.returns
+returns c = answered_none _ _ _ _ _ _ _ c.loop-done.invariant.so_far (omega arith) c.loop-done.invariant.behind c.loop-done.invariant.none

@@ -1,0 +1,30 @@
+-- How the states of an automaton go on, tree by tree, and which states take a forest.
+use Rattle.std.specs.Prelude.{◌≡◌, ◌↔◌, ℕ, List, Bool, true, Some, slice_get}
+use Rattle.flux_atom.specs.Atom.{kind_of}
+use Rattle.flux_trees.specs.Hedge.{Plain, nil, elem, leaf}
+use Rattle.flux_auto.specs.declared.edge.Edge.{Edge}
+use Rattle.flux_auto.specs.declared.edge.Edge.TheVariants.{Atom, Elem}
+use Rattle.flux_auto.specs.Takes.{State, has, takes}
+
+-- the list has the item, at some place
+abbrev pub Has : {X : Type 0} → List X → X → Type 0
+Has xs x = (k : ℕ) × (slice_get xs k ≡ Some x)
+
+-- the state has the edge
+abbrev pub HasEdge : List State → ℕ → Edge → Type 0
+HasEdge a s e = (state : State) × (slice_get a s ≡ Some state) × Has state.edges e
+
+-- the state s goes by the first tree of the forest to the state r: by an atom of the tree's kind, or
+-- by an element of its label whose state takes the content
+abbrev pub Goes : List State → ℕ → Plain → ℕ → Type 0
+Goes a s nil r = ⊥
+Goes a s (elem _ n v w) r = (c : ℕ) × HasEdge a s (Elem n c r) × (takes a c v ≡ true)
+Goes a s (leaf _ x w) r = HasEdge a s (Atom (kind_of x) r)
+
+-- the truth values are the profile of the forest: true at just the states that take it
+abbrev pub IsProfile : List State → List Bool → Plain → Type 0
+IsProfile a p v = (s : ℕ) → (has p s ≡ true) ↔ (takes a s v ≡ true)
+
+-- no state takes the forest
+abbrev pub IsDead : List State → Plain → Type 0
+IsDead a v = (s : ℕ) → takes a s v ≡ true → ⊥

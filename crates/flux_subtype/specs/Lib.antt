@@ -1,0 +1,5 @@
+pub mod Going
+pub mod Index
+pub mod Kept
+pub mod Search
+pub mod Witness

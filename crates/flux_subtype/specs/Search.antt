@@ -1,0 +1,122 @@
+-- The search for all profiles that forests have.
+use Rattle.std.specs.Prelude.{◌≡◌, ◌⊎◌, ◌↔◌, ℕ, ◌<◌, ◌≤◌, ◌+◌, List, [], ◌++◌, Bool, true, false, Option, Some, None, length, slice_get}
+use Rattle.flux_atom.specs.declared.atom.AtomKind.{AtomKind}
+use Rattle.flux_trees.specs.Hedge.{Plain, nil}
+use Rattle.flux_auto.specs.Takes.{State, has, takes}
+use Rattle.flux_subtype.specs.declared.index.Move.{Move}
+use Rattle.flux_subtype.specs.declared.index.Group.{Group}
+use Rattle.flux_subtype.specs.declared.kept.Recipe.{Recipe}
+use Rattle.flux_subtype.specs.declared.kept.Recipe.TheVariants as recipe
+use Rattle.flux_subtype.specs.declared.kept.Kept.{Kept}
+use Rattle.flux_subtype.specs.declared.trees.Head.{Head}
+use Rattle.flux_subtype.specs.declared.trees.Head.TheVariants.{Atom, Elem}
+use Rattle.flux_subtype.specs.declared.trees.Tree.{Tree}
+use Rattle.flux_subtype.specs.Going.{Has, IsProfile, IsDead}
+use Rattle.flux_subtype.specs.Index.{ByAtom, ByElement, ByLinks}
+use Rattle.flux_subtype.specs.Kept.{set_at, AreKept, Grows}
+
+-- the profile of a tree and a rest with the profile q is p, where the tree makes the moves
+abbrev pub Fires : List Move → List Bool → List Bool → Type 0
+Fires moves q p = (s : ℕ) → (has p s ≡ true) ↔ ((m : Move) × Has moves m × (m.from ≡ s) × (has q m.to ≡ true))
+
+-- no state takes such a tree and such a rest
+abbrev pub IsSilent : List Move → List Bool → Type 0
+IsSilent moves q = (m : Move) → Has moves m → has q m.to ≡ true → ⊥
+
+-- the moves of the tree are those by its head
+abbrev pub MovesBy : List State → List Kept → Head → List Move → Type 0
+MovesBy a ks (Atom k) moves = ByAtom a k moves
+MovesBy a ks (Elem n c) moves = (c < length ks) × ByElement a n (set_at ks c) moves
+
+abbrev pub AreTrees : List State → List Kept → List Tree → Type 0
+AreTrees a ks ts = (t : Tree) → Has ts t → MovesBy a ks t.head t.moves.items
+
+-- a tree with the moves is kept, or there are none
+abbrev pub Stands : List Tree → List Move → Type 0
+Stands ts moves = (moves ≡ []) ⊎ ((t : Tree) × Has ts t × (t.moves.items ≡ moves))
+
+-- trees that were kept are kept
+abbrev pub TreesGrow : List Tree → List Tree → Type 0
+TreesGrow ts us = (more : List Tree) × (us ≡ ts ++ more)
+
+-- the tree is kept, if it makes moves that no kept tree makes
+pub record AddsTree (ts us : List Tree) (head : Head) (moves : List Move) : Type 0 where
+  pub grows : TreesGrow ts us
+  pub stands : Stands us moves
+  pub new : (t : Tree) → Has us t → Has ts t ⊎ ((t.head ≡ head) × (t.moves.items ≡ moves))
+
+-- the tree is an element whose content has the profile p, which is kept at c
+abbrev pub IsElementOf : List Group → List Bool → ℕ → Tree → Type 0
+IsElementOf groups p c t = (n : ℕ) × (t.head ≡ Elem n c) × ByLinks groups n p t.moves.items
+
+-- the elements of each label are kept, if they make new moves
+pub record AddsElements (groups : List Group) (p : List Bool) (c : ℕ) (ts us : List Tree) : Type 0 where
+  pub grows : TreesGrow ts us
+  pub stand : (n : ℕ) → (moves : List Move) × ByLinks groups n p moves × Stands us moves
+  pub new : (t : Tree) → Has us t → Has ts t ⊎ IsElementOf groups p c t
+
+-- elements of each label with the content p have trees
+abbrev pub LabelsDone : List State → List Tree → List Bool → Type 0
+LabelsDone a ts p = (n : ℕ) → (moves : List Move) × ByElement a n p moves × Stands ts moves
+
+-- the tree before the profile q: its profile is kept, or no state takes it
+abbrev pub Answered : List Kept → List Move → List Bool → Type 0
+Answered ks moves q = IsSilent moves q ⊎ ((i : ℕ) × (i < length ks) × Fires moves q (set_at ks i))
+
+-- the trees, one after another, before each profile below n
+abbrev pub AllAnswered : List Kept → List Tree → ℕ → Type 0
+AllAnswered ks ts n = (t : Tree) (i : ℕ) → Has ts t → i < n → Answered ks t.moves.items (set_at ks i)
+
+-- the first m trees before each profile below n
+abbrev pub AnsweredBelow : List Kept → List Tree → ℕ → ℕ → Type 0
+AnsweredBelow ks ts m n = (k i : ℕ) (t : Tree) → k < m → slice_get ts k ≡ Some t → i < n → Answered ks t.moves.items (set_at ks i)
+
+-- how a forest of a tree and the forest of a kept profile is made
+abbrev pub recipe_of : Head → ℕ → Recipe
+recipe_of (Atom k) r = recipe.Leaf k r
+recipe_of (Elem n c) r = recipe.Elem n c r
+
+-- the tree is put before the profile q
+pub record Puts (a : List State) (ks ls : List Kept) (moves : List Move) (q : List Bool) : Type 0 where
+  pub kept : AreKept a ls
+  pub grows : Grows ks ls
+  pub answered : Answered ls moves q
+
+-- the tree is put before the profiles from i on that are below j
+pub record Fills (a : List State) (ks ls : List Kept) (moves : List Move) (i j : ℕ) : Type 0 where
+  pub kept : AreKept a ls
+  pub grows : Grows ks ls
+  pub answered : (k : ℕ) → i ≤ k → k < j → Answered ls moves (set_at ls k)
+
+-- the first m trees are put before the profiles up to n
+pub record FillsAll (a : List State) (ks ls : List Kept) (ts : List Tree) (n m : ℕ) : Type 0 where
+  pub kept : AreKept a ls
+  pub grows : Grows ks ls
+  pub answered : AnsweredBelow ls ts m (n + 1)
+
+-- trees of the profiles below n, and what stands before them
+pub record IsDone (a : List State) (ks : List Kept) (ts : List Tree) (n : ℕ) : Type 0 where
+  pub kept : AreKept a ks
+  pub trees : AreTrees a ks ts
+  pub first : (i : ℕ) × (i < length ks) × IsProfile a (set_at ks i) nil
+  pub kinds : (k : AtomKind) → (moves : List Move) × ByAtom a k moves × Stands ts moves
+  pub labels : (i : ℕ) → i < n → LabelsDone a ts (set_at ks i)
+  pub answered : AllAnswered ks ts n
+
+-- the profile at n is taken up
+pub record Turned (a : List State) (ks ls : List Kept) (us : List Tree) (n : ℕ) : Type 0 where
+  pub grows : Grows ks ls
+  pub done : IsDone a ls us (n + 1)
+
+-- the profile of the forest is kept, or no state takes it
+abbrev pub IsCovered : List State → List Kept → Plain → Type 0
+IsCovered a ks v = IsDead a v ⊎ ((i : ℕ) × (i < length ks) × IsProfile a (set_at ks i) v)
+
+-- a kept profile with the left state and without the right one
+abbrev pub IsAgainst : List Kept → ℕ → ℕ → ℕ → Type 0
+IsAgainst ks left right i = (has (set_at ks i) left ≡ true) × (has (set_at ks i) right ≡ false)
+
+-- none: the right state takes all that the left one takes; else a kept profile against it
+abbrev pub IsAnswer : List State → List Kept → ℕ → ℕ → Option ℕ → Type 0
+IsAnswer a ks left right None = (v : Plain) → takes a left v ≡ true → takes a right v ≡ true
+IsAnswer a ks left right (Some i) = AreKept a ks × (i < length ks) × IsAgainst ks left right i

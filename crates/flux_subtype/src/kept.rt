@@ -1,0 +1,62 @@
+// The profiles that are kept.
+ghost use Rattle.std.specs.Prelude.{◌≡◌, ◌↔◌, IfOk, IfSome, IfNone, IsTrue};
+ghost use Rattle.flux_subtype.specs.Kept.{Keeps, IsKept, IsFresh};
+
+use flux_atom::{AtomKind, Name};
+use std::alloc::AllocError;
+
+// How a forest with a profile is made: nothing, or a tree and the forest of an earlier profile, by
+// its index. The content of an element is also such a forest.
+#[derive(Clone, Copy, Debug)]
+pub(crate) enum Recipe {
+    Nothing,
+    Leaf(AtomKind, usize),
+    Elem(Name, usize, usize),
+}
+
+// The states that take a forest, and how it is made.
+#[derive(Drop)]
+pub(crate) struct Kept {
+    pub(crate) set: Vec<bool>,
+    pub(crate) from: Recipe,
+}
+
+fn is_same(left: &[bool], right: &[bool]) -> bool
+    ensures { IsTrue result ↔ (left.now ≡ right.now) }
+{
+    left == right
+}
+
+// The place of a profile, if it is kept. One place is looked at first.
+fn place_of(kept: &[Kept], set: &[bool], first: usize) -> Option<usize>
+    ensures found { IfSome result (λ _. IsKept kept.now set.now) }
+    ensures none { IfNone result (IsFresh kept.now set.now) }
+{
+    if first < kept.len() && is_same(&kept[first].set, set) {
+        return Some(first);
+    }
+    for index in 0..kept.len() {
+        if is_same(&kept[index].set, set) {
+            return Some(index);
+        }
+    }
+    None
+}
+
+// Keeps a profile, unless it is kept already, and tells its place. A good guess of the place spares
+// a search.
+pub(crate) fn keep(
+    kept: &mut Vec<Kept>,
+    set: Vec<bool>,
+    from: Recipe,
+    guess: usize,
+) -> Result<usize, AllocError>
+    ensures { IfOk result (λ _. Keeps kept.old.items set.items from kept.new.items) }
+{
+    if let Some(place) = place_of(kept, &set, guess) {
+        return Ok(place);
+    }
+    let place = kept.len();
+    kept.push(Kept { set, from })?;
+    Ok(place)
+}

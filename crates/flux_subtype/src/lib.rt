@@ -1,0 +1,14 @@
+//! Inclusion of types, decided by the sets of automaton states that forests can have.
+#![tactic(auto)]
+
+mod index;
+mod kept;
+mod profiles;
+mod search;
+mod trees;
+mod witness;
+
+pub use profiles::Profiles;
+
+#[cfg(test)]
+mod tests;

@@ -1,0 +1,241 @@
+// The search for a forest that one state takes and another doesn't.
+ghost use Rattle.std.specs.Prelude.{◌≡◌, ◌↔◌, ◌<◌, ◌≤◌, ◌+◌, ℕ, [], length, IfOk, IfSome, IfNone, IsTrue, true, false};
+ghost use Rattle.flux_auto.specs.Takes.{has, profile_nil};
+ghost use Rattle.flux_subtype.specs.declared.index.Move.{Move};
+ghost use Rattle.flux_subtype.specs.Going.{Has};
+ghost use Rattle.flux_subtype.specs.Index.{Indexes, IndexesGroups};
+ghost use Rattle.flux_subtype.specs.Kept.{set_at, AreKept};
+ghost use Rattle.flux_subtype.specs.Search.{Fires, IsSilent, MovesBy, AreTrees, AnsweredBelow, Puts, Fills, FillsAll, IsDone, Turned, IsAgainst, IsAnswer, recipe_of};
+
+use crate::index::{Group, Index, Move, has_state, index_of};
+use crate::kept::{Kept, Recipe, keep};
+use crate::trees::{Head, Tree, add_elements, add_tree};
+use flux_atom::AtomKind;
+use flux_auto::Auto;
+use std::alloc::{AllocError, Global};
+
+// The profile of the empty forest.
+fn nil_profile(alloc: Global, auto: &Auto) -> Result<Vec<bool>, AllocError>
+    ensures { IfOk result (λ set. set.items ≡ profile_nil auto.now.states) }
+{
+    let mut set = Vec::new(alloc);
+    for state in 0..auto.states() {
+        set.push(auto.ends(state))?;
+    }
+    Ok(set)
+}
+
+// Whether no state takes a tree of these moves before a rest with the profile.
+fn is_silent(moves: &[Move], rest: &[bool]) -> bool
+    ensures { IsTrue result → IsSilent moves.now rest.now }
+{
+    for index in 0..moves.len() {
+        if has_state(rest, moves[index].to) {
+            return false;
+        }
+    }
+    true
+}
+
+// The profile of a tree of these moves and a rest with the profile.
+fn fired(alloc: Global, auto: &Auto, moves: &[Move], rest: &[bool]) -> Result<Vec<bool>, AllocError>
+    requires { (m : Move) → Has moves.now m → m.from < length auto.now.states }
+    ensures long { IfOk result (λ set. length set.items ≡ length auto.now.states) }
+    ensures fires { IfOk result (λ set. Fires moves.now rest.now set.items) }
+{
+    let mut set = vec![in alloc; false; auto.states() as usize]?;
+    for index in 0..moves.len() {
+        let step = moves[index];
+        if has_state(rest, step.to) {
+            set[step.from as usize] = true;
+        }
+    }
+    Ok(set)
+}
+
+fn recipe(head: Head, rest: usize) -> Recipe
+    ensures { result ≡ recipe_of head rest }
+{
+    match head {
+        Head::Atom(kind) => Recipe::Leaf(kind, rest),
+        Head::Elem(label, content) => Recipe::Elem(label, content, rest),
+    }
+}
+
+// Keeps the profile of a tree and a rest, if some state takes them. Tells its place, or the guess.
+fn put(
+    alloc: Global,
+    auto: &Auto,
+    kept: &mut Vec<Kept>,
+    tree: &Tree,
+    rest: usize,
+    guess: usize,
+) -> Result<usize, AllocError>
+    requires kept { AreKept auto.now.states kept.old.items }
+    requires tree { MovesBy auto.now.states kept.old.items tree.now.head tree.now.moves.items }
+    requires rest { rest < length kept.old.items }
+    ensures { IfOk result (λ _. Puts auto.now.states kept.old.items kept.new.items tree.now.moves.items (set_at kept.old.items rest)) }
+{
+    let behind = kept[rest].set.as_slice();
+    if is_silent(&tree.moves, behind) {
+        return Ok(guess);
+    }
+    let set = fired(alloc, auto, &tree.moves, behind)?;
+    let place = keep(kept, set, recipe(tree.head, rest), guess)?;
+    Ok(place)
+}
+
+// Keeps the profiles of a tree before each of a range of profiles, and tells the last one's place.
+fn fill(
+    alloc: Global,
+    auto: &Auto,
+    kept: &mut Vec<Kept>,
+    tree: &Tree,
+    from: usize,
+    to: usize,
+    guess: usize,
+) -> Result<usize, AllocError>
+    requires kept { AreKept auto.now.states kept.old.items }
+    requires tree { MovesBy auto.now.states kept.old.items tree.now.head tree.now.moves.items }
+    requires from { from ≤ to }
+    requires to { to ≤ length kept.old.items }
+    ensures { IfOk result (λ _. Fills auto.now.states kept.old.items kept.new.items tree.now.moves.items from to) }
+{
+    let mut place = guess;
+    for rest in from..to {
+        place = put(alloc, auto, kept, tree, rest, place)?;
+    }
+    Ok(place)
+}
+
+// The place where the profile of a tree was put last.
+fn last_of(lasts: &[usize], index: usize) -> usize {
+    lasts.get(index).copied().unwrap_or(0)
+}
+
+fn set_last(lasts: &mut Vec<usize>, index: usize, place: usize) -> Result<(), AllocError> {
+    if index < lasts.len() {
+        lasts[index] = place;
+    } else {
+        lasts.push(place)?;
+    }
+    Ok(())
+}
+
+// Keeps the profiles of each tree before each profile up to one, where those of the trees that were
+// there before and of earlier profiles are kept. Of each tree it notes where its profile is.
+fn fill_all(
+    alloc: Global,
+    auto: &Auto,
+    kept: &mut Vec<Kept>,
+    trees: &[Tree],
+    lasts: &mut Vec<usize>,
+    before: usize,
+    done: usize,
+) -> Result<(), AllocError>
+    requires kept { AreKept auto.now.states kept.old.items }
+    requires trees { AreTrees auto.now.states kept.old.items trees.now }
+    requires done { done < length kept.old.items }
+    requires answered { AnsweredBelow kept.old.items trees.now before done }
+    ensures { IfOk result (λ _. FillsAll auto.now.states kept.old.items kept.new.items trees.now done (length trees.now)) }
+{
+    for index in 0..trees.len() {
+        let from = if index < before { done } else { 0 };
+        let guess = last_of(lasts, index);
+        let last = fill(alloc, auto, kept, &trees[index], from, done + 1, guess)?;
+        set_last(lasts, index, last)?;
+    }
+    Ok(())
+}
+
+// Takes up a profile: as the content of elements, and behind every tree.
+fn turn(
+    alloc: Global,
+    auto: &Auto,
+    groups: &[Group],
+    kept: &mut Vec<Kept>,
+    trees: &mut Vec<Tree>,
+    lasts: &mut Vec<usize>,
+    done: usize,
+) -> Result<(), AllocError>
+    requires so_far { IsDone auto.now.states kept.old.items trees.old.items done }
+    requires groups { IndexesGroups auto.now.states groups.now }
+    requires done { done < length kept.old.items }
+    ensures { IfOk result (λ _. Turned auto.now.states kept.old.items kept.new.items trees.new.items done) }
+{
+    let before = trees.len();
+    add_elements(alloc, groups, &kept[done].set, done, trees)?;
+    fill_all(alloc, auto, kept, trees, lasts, before, done)?;
+    Ok(())
+}
+
+fn is_against(kept: &Kept, left: u64, right: u64) -> bool
+    ensures { IsTrue result ↔ ((has kept.now.set.items left ≡ true) × (has kept.now.set.items right ≡ false)) }
+{
+    has_state(&kept.set, left) && !has_state(&kept.set, right)
+}
+
+// The first profile from an index on that has the left state and lacks the right one.
+fn against(kept: &[Kept], from: usize, left: u64, right: u64) -> Option<usize>
+    requires { from ≤ length kept.now }
+    ensures some { IfSome result (λ i. (i < length kept.now) × IsAgainst kept.now left right i) }
+    ensures none { IfNone result ((i : ℕ) → from ≤ i → i < length kept.now → IsAgainst kept.now left right i → ⊥) }
+{
+    for index in from..kept.len() {
+        if is_against(&kept[index], left, right) {
+            return Some(index);
+        }
+    }
+    None
+}
+
+// Takes up the profiles one after another, until one is against the inclusion or none is left.
+fn saturate(
+    alloc: Global,
+    auto: &Auto,
+    groups: &[Group],
+    left: u64,
+    right: u64,
+    kept: &mut Vec<Kept>,
+    trees: &mut Vec<Tree>,
+) -> Result<Option<usize>, AllocError>
+    requires begun { IsDone auto.now.states kept.old.items trees.old.items 0 }
+    requires groups { IndexesGroups auto.now.states groups.now }
+    ensures { IfOk result (IsAnswer auto.now.states kept.new.items left right) }
+{
+    let mut lasts = Vec::new(alloc);
+    let mut done = 0;
+    let mut seen = 0;
+    while done < kept.len() {
+        if let Some(index) = against(kept, seen, left, right) {
+            return Ok(Some(index));
+        }
+        seen = kept.len();
+        turn(alloc, auto, groups, kept, trees, &mut lasts, done)?;
+        done += 1;
+    }
+    Ok(None)
+}
+
+// A profile of a forest that the left state takes and the right one doesn't, if there is one.
+pub(crate) fn search(
+    alloc: Global,
+    auto: &Auto,
+    left: u64,
+    right: u64,
+    kept: &mut Vec<Kept>,
+) -> Result<Option<usize>, AllocError>
+    requires { kept.old.items ≡ [] }
+    ensures { IfOk result (IsAnswer auto.now.states kept.new.items left right) }
+{
+    let Index {
+        bools,
+        texts,
+        groups,
+    } = index_of(alloc, auto)?;
+    let mut trees = Vec::new(alloc);
+    add_tree(&mut trees, Head::Atom(AtomKind::Bool), bools)?;
+    add_tree(&mut trees, Head::Atom(AtomKind::Text), texts)?;
+    keep(kept, nil_profile(alloc, auto)?, Recipe::Nothing, 0)?;
+    saturate(alloc, auto, &groups, left, right, kept, &mut trees)
+}

@@ -1,0 +1,90 @@
+// The trees that are kept, by the moves that they make.
+ghost use Rattle.std.specs.Prelude.{◌≡◌, IfOk, IsTrue};
+ghost use Rattle.flux_subtype.specs.declared.trees.Tree.{Tree};
+ghost use Rattle.flux_subtype.specs.Going.{Has};
+ghost use Rattle.flux_subtype.specs.Index.{Differ};
+ghost use Rattle.flux_subtype.specs.Search.{AddsTree, AddsElements};
+
+use crate::index::{Group, Move, moves_along};
+use flux_atom::{AtomKind, Name};
+use std::alloc::{AllocError, Global};
+
+// An atom of a kind, or an element with a label and the forest of a kept profile as its content.
+#[derive(Clone, Copy, Debug)]
+pub(crate) enum Head {
+    Atom(AtomKind),
+    Elem(Name, usize),
+}
+
+// A tree and the moves that states make by it.
+#[derive(Drop)]
+pub(crate) struct Tree {
+    pub(crate) head: Head,
+    pub(crate) moves: Vec<Move>,
+}
+
+fn is_move(left: Move, right: Move) -> bool
+    ensures { IsTrue result → left ≡ right }
+{
+    left.from == right.from && left.to == right.to
+}
+
+fn are_same(left: &[Move], right: &[Move]) -> bool
+    ensures { IsTrue result → left.now ≡ right.now }
+{
+    if left.len() != right.len() {
+        return false;
+    }
+    for index in 0..left.len() {
+        if !is_move(left[index], right[index]) {
+            return false;
+        }
+    }
+    true
+}
+
+// Whether some tree makes just these moves.
+fn has_moves(trees: &[Tree], moves: &[Move]) -> bool
+    ensures { IsTrue result → (t : Tree) × Has trees.now t × (t.moves.items ≡ moves.now) }
+{
+    for index in 0..trees.len() {
+        if are_same(&trees[index].moves, moves) {
+            return true;
+        }
+    }
+    false
+}
+
+// Keeps a tree, unless one with its moves is kept or it makes none.
+pub(crate) fn add_tree(
+    trees: &mut Vec<Tree>,
+    head: Head,
+    moves: Vec<Move>,
+) -> Result<(), AllocError>
+    ensures { IfOk result (λ _. AddsTree trees.old.items trees.new.items head moves.items) }
+{
+    if moves.is_empty() || has_moves(trees, &moves) {
+        return Ok(());
+    }
+    trees.push(Tree { head, moves })?;
+    Ok(())
+}
+
+// Keeps the elements of each label whose content has the profile at an index.
+pub(crate) fn add_elements(
+    alloc: Global,
+    groups: &[Group],
+    set: &[bool],
+    content: usize,
+    trees: &mut Vec<Tree>,
+) -> Result<(), AllocError>
+    requires { Differ groups.now }
+    ensures { IfOk result (λ _. AddsElements groups.now set.now content trees.old.items trees.new.items) }
+{
+    for index in 0..groups.len() {
+        let group = &groups[index];
+        let moves = moves_along(alloc, &group.links, set)?;
+        add_tree(trees, Head::Elem(group.label, content), moves)?;
+    }
+    Ok(())
+}
