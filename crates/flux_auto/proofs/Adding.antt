@@ -1,8 +1,8 @@
 -- Types that are added to an automaton.
-use Rattle.std.proofs.Common.{◌≡◌, ℕ, zero, suc, ◌⊎◌, ◌<◌, ◌+◌, List, [], ◌∷◌, ◌++◌, length, Option, Some, None, slice_get, Bool, true, false, IsTrue, ◌↔◌, IfSome, map, refl, sym, ap, subst, ◌∙◌, inl, inr, arith, length-append}
+use Rattle.std.proofs.Common.{◌≡◌, ℕ, zero, suc, ◌<◌, List, [], ◌∷◌, ◌++◌, length, Option, Some, None, slice_get, Bool, true, false, IsTrue, ◌↔◌, IfSome, map, sym, ap, subst, ◌∙◌, inl, inr, arith, length-append}
 use Rattle.std.proofs.lemmas.Option.{slice_get_within}
 use Rattle.flux_trees.specs.Hedge.{Plain}
-use Rattle.flux_trees.specs.Draft.{Draft, done, IsWhole, outer}
+use Rattle.flux_trees.specs.Draft.{Draft, outer}
 use Rattle.flux_schema.specs.Ty.{Ty}
 use Rattle.flux_schema.specs.Member.{Member}
 use Rattle.flux_schema.specs.Definitions.{Definitions}
@@ -10,7 +10,7 @@ use Rattle.flux_types.specs.Read.{ty_of}
 use Rattle.flux_auto.specs.declared.table.Table.{Table}
 use Rattle.flux_auto.specs.declared.auto.Added.{Added}
 use Rattle.flux_auto.specs.Takes.{takes}
-use Rattle.flux_auto.specs.Automaton.{Automaton, TakesMembers, IsSomeMember}
+use Rattle.flux_auto.specs.Automaton.{TakesMembers, IsSomeMember}
 use Rattle.flux_auto.specs.Standing.{at, lists, Ready, IsContent}
 use Rattle.flux_auto.specs.Built.{states_of, Grows, IsClosed, IsComplete, Extended}
 use Rattle.flux_auto.specs.Shown.{shown, IsRight}

@@ -1,15 +1,15 @@
 -- A forest that is written from its recipe.
-use Rattle.std.proofs.Common.{◌≡◌, ℕ, zero, suc, ◌+◌, ◌-◌, ◌*◌, ◌<◌, ◌≤◌, List, [], ◌∷◌, ◌++◌, Some, length, slice_get, refl, sym, ap, ap₂, subst, ◌∙◌, arith}
+use Rattle.std.proofs.Common.{◌≡◌, ℕ, suc, ◌+◌, ◌*◌, ◌<◌, List, [], ◌∷◌, ◌++◌, Some, length, slice_get, refl, sym, ap, ap₂, subst, ◌∙◌, arith}
 use Rattle.flux_atom.specs.declared.atom.Atom.{Atom as Value}
 use Rattle.flux_atom.specs.declared.atom.AtomKind.{AtomKind}
-use Rattle.flux_trees.specs.Hedge.{Hedge, Plain, nil, elem, leaf, size}
-use Rattle.flux_trees.specs.Draft.{Draft, done, begun, depth, add, begin, end}
+use Rattle.flux_trees.specs.Hedge.{Plain, nil, elem, leaf, size}
+use Rattle.flux_trees.specs.Draft.{Draft, done, depth, add, begin, end}
 use Rattle.flux_trees.proofs.DraftLaws.{add-nil, add-add, depth-add, depth-begin, depth-end, end-begin}
 use Rattle.flux_auto.specs.declared.witness.Recipe.{Recipe}
 use Rattle.flux_auto.specs.declared.witness.Recipe.TheVariants.{End, Atom, Elem}
 use Rattle.flux_auto.specs.declared.witness.Task.{Task}
 use Rattle.flux_auto.specs.declared.witness.Task.TheVariants.{Write, Close}
-use Rattle.flux_auto.specs.Witness.{sample, forest_at, made, forests, IsOlder, AreOlder}
+use Rattle.flux_auto.specs.Witness.{sample, forest_at, forests, IsOlder}
 use Rattle.flux_auto.proofs.Recipes.{forest-made}
 
 -- a task done, and all tasks, the last first

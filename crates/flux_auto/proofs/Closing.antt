@@ -1,9 +1,9 @@
 -- States that get their edges.
-use Rattle.std.proofs.Common.{◌≡◌, ◌⊎◌, ◌↔◌, ℕ, zero, suc, ◌+◌, ◌<◌, ◌≤◌, List, [], ◌∷◌, ◌++◌, Bool, true, false, length, Some, slice_get, get_or, refl, sym, ap, ap₂, subst, ◌∙◌, inl, inr, arith, length-append}
+use Rattle.std.proofs.Common.{◌≡◌, ◌⊎◌, ◌↔◌, ℕ, zero, suc, ◌+◌, ◌<◌, ◌≤◌, List, [], ◌∷◌, ◌++◌, Bool, true, false, length, Some, slice_get, get_or, refl, sym, ap, subst, ◌∙◌, inl, inr, arith}
 use Rattle.std.proofs.lemmas.List.{append-nil}
 use Rattle.std.proofs.lemmas.Option.{slice_get_within, slice_get_read}
-use Rattle.flux_trees.specs.Hedge.{Plain, nil}
-use Rattle.flux_schema.specs.Ty.{Ty, empty}
+use Rattle.flux_trees.specs.Hedge.{nil}
+use Rattle.flux_schema.specs.Ty.{Ty}
 use Rattle.flux_schema.specs.Definitions.{Definitions}
 use Rattle.flux_schema.specs.Member.{Member}
 use Rattle.flux_types.specs.declared.ty.Ty.{Ty as Tree}
@@ -13,11 +13,11 @@ use Rattle.flux_auto.specs.declared.table.Cell.{Cell}
 use Rattle.flux_auto.specs.declared.table.Row.{Row}
 use Rattle.flux_auto.specs.declared.table.Table.{Table}
 use Rattle.flux_auto.specs.Takes.{EdgesBelow}
-use Rattle.flux_auto.specs.Standing.{In, at, lists, FollowsAny, Starts, Ready}
-use Rattle.flux_auto.specs.Built.{Grows, IsSet, IsEven, IsGround, IsOwn, IsClosed, IsFresh, OwnFrom, FreshFrom, Linear, ClosedBelow, Awaits, Filled, Closed, IsComplete}
+use Rattle.flux_auto.specs.Standing.{In, at, lists, FollowsAny, Ready}
+use Rattle.flux_auto.specs.Built.{Grows, IsSet, IsEven, IsGround, IsOwn, IsClosed, OwnFrom, FreshFrom, Linear, ClosedBelow, Awaits, Filled, Closed}
 use Rattle.flux_auto.proofs.Lists.{in-cons, starts-in, skips-in, starts-full}
 use Rattle.flux_auto.proofs.Tables.{some_is, get-append, at-cell, edges-append, any-left, any-right, any-cases, IsOwn-grows, IsClosed-grows, IsFresh-grows}
-use Rattle.flux_auto.proofs.Growing.{below_or_not, grows-length, grows_by, grows_less, grows_same, carried}
+use Rattle.flux_auto.proofs.Growing.{below_or_not, grows_by, grows_same, carried}
 use Rattle.flux_auto.proofs.Reading.{own_from, ground_on}
 
 module _ (defs : Definitions) where

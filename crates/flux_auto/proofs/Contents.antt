@@ -1,10 +1,10 @@
 -- States for the contents of elements.
-use Rattle.std.proofs.Common.{◌≡◌, ℕ, zero, suc, ◌+◌, ◌<◌, ◌≤◌, ◌⊎◌, ◌↔◌, List, [], ◌∷◌, ◌++◌, length, Bool, true, false, ◌&&◌, IsTrue, Option, Some, None, IfSome, IfNone, unwrap_or, slice_get, get_or, refl, sym, ap, ap₂, subst, ◌∙◌, inl, inr, arith, length-append}
+use Rattle.std.proofs.Common.{◌≡◌, ℕ, ◌+◌, ◌<◌, ◌≤◌, ◌⊎◌, ◌↔◌, List, [], ◌∷◌, ◌++◌, length, Bool, true, false, ◌&&◌, IsTrue, Option, Some, None, IfSome, IfNone, unwrap_or, slice_get, get_or, refl, sym, ap, ap₂, subst, ◌∙◌, inl, inr, arith, length-append}
 use Rattle.std.proofs.lemmas.Option.{slice_get_within, slice_get_read}
 use Rattle.std.proofs.lemmas.Bool.{eq-eqb}
 use Rattle.flux_atom.specs.declared.atom.AtomKind.{AtomKind}
 use Rattle.flux_schema.specs.Ty.{Ty, empty, atom, element, seq, alt, star, named, NamesBelow}
-use Rattle.flux_schema.specs.Tidy.{same, same_kind}
+use Rattle.flux_schema.specs.Tidy.{same}
 use Rattle.flux_schema.proofs.SameLaws.{same-eq, same_kind-same}
 use Rattle.flux_types.specs.declared.ty.Ty.{Ty as Tree}
 use Rattle.flux_types.specs.declared.ty.Ty.TheVariants.{Empty, Atom, Named}
@@ -15,8 +15,8 @@ use Rattle.flux_auto.specs.declared.table.Cell.{Cell}
 use Rattle.flux_auto.specs.declared.table.Table.{Table}
 use Rattle.flux_auto.specs.Standing.{IsContent, HasContent, Ready}
 use Rattle.flux_auto.specs.Built.{Grows, Put, IsEven, IsFresh, FreshFrom, Registered, PutContent}
-use Rattle.flux_auto.proofs.Tables.{some_is, get-append, get-end, IsContent-grows, Ready-grows, IsFresh-grows}
-use Rattle.flux_auto.proofs.Growing.{below_or_not, grows-length, carried}
+use Rattle.flux_auto.proofs.Tables.{some_is, get-append, get-end, Ready-grows, IsFresh-grows}
+use Rattle.flux_auto.proofs.Growing.{below_or_not, carried}
 
 -- ---- the search for a state
 

@@ -1,20 +1,18 @@
 -- Tables that are begun, and made longer by types.
-use Rattle.std.proofs.Common.{◌≡◌, ◌⊎◌, ◌↔◌, ℕ, zero, suc, ◌+◌, ◌<◌, ◌≤◌, List, [], ◌∷◌, ◌++◌, Bool, true, false, length, take, Some, slice_get, Result, Ok, Err, OnErr, refl, sym, ap, ap₂, subst, ◌∙◌, inl, inr, arith, length-append}
+use Rattle.std.proofs.Common.{◌≡◌, ℕ, zero, suc, ◌+◌, ◌<◌, ◌≤◌, List, [], ◌∷◌, ◌++◌, Bool, true, length, take, Some, slice_get, Result, Ok, Err, OnErr, refl, sym, ap, ap₂, subst, ◌∙◌, inl, inr, arith}
 use Rattle.std.proofs.lemmas.Option.{slice_get_within}
-use Rattle.flux_trees.specs.Hedge.{Plain, nil}
+use Rattle.flux_trees.specs.Hedge.{nil}
 use Rattle.flux_schema.specs.Ty.{Ty, empty, NamesBelow}
 use Rattle.flux_schema.specs.Definitions.{Definitions, body_of}
-use Rattle.flux_types.specs.Read.{ty_of}
-use Rattle.flux_auto.specs.declared.edge.Edge.{Edge}
 use Rattle.flux_auto.specs.declared.table.Cell.{Cell}
 use Rattle.flux_auto.specs.declared.table.Row.{Row}
 use Rattle.flux_auto.specs.declared.table.Table.{Table}
 use Rattle.flux_auto.specs.Takes.{EdgesBelow}
 use Rattle.flux_auto.specs.Standing.{In, at, lists, FollowsAny, TellsEmpty, Ready, IsContent}
-use Rattle.flux_auto.specs.Built.{Grows, Put, IsEven, IsGround, IsClosed, IsFresh, FreshFrom, Registered, PutContent, ClosedBelow, IsComplete, IsBegun, Extended}
+use Rattle.flux_auto.specs.Built.{Grows, Put, IsEven, IsGround, IsClosed, FreshFrom, Registered, PutContent, ClosedBelow, IsComplete, IsBegun, Extended}
 use Rattle.flux_auto.proofs.Lists.{end-in, in-end}
-use Rattle.flux_auto.proofs.Tables.{some_is, at-grows, Ready-grows, IsContent-grows}
-use Rattle.flux_auto.proofs.Growing.{below_or_not, grows_by, grows_less, grows_same, grows-length, carried}
+use Rattle.flux_auto.proofs.Tables.{some_is, at-grows, IsContent-grows}
+use Rattle.flux_auto.proofs.Growing.{below_or_not, grows_by, grows_same, grows-length, carried}
 use Rattle.flux_auto.proofs.Contents.{fresh_on}
 use Rattle.flux_auto.proofs.Reading.{ground_on, ready_on}
 use Rattle.flux_auto.proofs.Closing.{closed_carried}

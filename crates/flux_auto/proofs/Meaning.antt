@@ -1,28 +1,26 @@
 -- The states of a complete table take what they stand for.
-use Rattle.std.proofs.Common.{◌≡◌, ℕ, zero, suc, ◌⊎◌, ◌<◌, ◌≤◌, ◌+◌, List, [], ◌∷◌, ◌++◌, length, Option, Some, None, slice_get, Bool, true, false, ◌&&◌, ◌||◌, ◌==◌, ◌↔◌, IfSome, map, refl, sym, ap, ap₂, subst, ◌∙◌, inl, inr, arith, length-append}
+use Rattle.std.proofs.Common.{◌≡◌, ℕ, zero, suc, ◌⊎◌, ◌<◌, List, [], ◌∷◌, length, Some, slice_get, Bool, true, false, ◌&&◌, ◌||◌, ◌↔◌, map, refl, sym, ap, ap₂, subst, ◌∙◌, inl, inr, arith, length-append}
 use Rattle.std.specs.List.{list_any}
 use Rattle.std.proofs.lemmas.Bool.{eqb-true, eq-eqb}
 use Rattle.std.proofs.lemmas.Option.{slice_get_within}
 use Rattle.flux_atom.specs.declared.atom.Atom.{Atom as Value}
-use Rattle.flux_atom.specs.declared.atom.AtomKind.{AtomKind}
 use Rattle.flux_atom.specs.Atom.{kind_of}
 use Rattle.flux_trees.specs.Hedge.{Plain, nil, elem, leaf}
-use Rattle.flux_schema.specs.Ty.{Ty, empty}
+use Rattle.flux_schema.specs.Ty.{Ty}
 use Rattle.flux_schema.specs.Tidy.{same_kind}
 use Rattle.flux_schema.specs.Definitions.{Definitions}
 use Rattle.flux_schema.specs.Member.{Member}
 use Rattle.flux_schema.proofs.SameLaws.{same_kind-eq, same_kind-same}
-use Rattle.flux_types.specs.Read.{ty_of}
 use Rattle.flux_auto.specs.declared.edge.Edge.{Edge}
 use Rattle.flux_auto.specs.declared.edge.Edge.TheVariants.{Atom, Elem}
 use Rattle.flux_auto.specs.declared.table.Row.{Row}
 use Rattle.flux_auto.specs.declared.table.Table.{Table}
-use Rattle.flux_auto.specs.Takes.{State, has, goes_by_element, goes_by_atom, profile, profile_nil, profile_element, profile_atom, takes, EdgeBelow, EdgesBelow}
+use Rattle.flux_auto.specs.Takes.{State, has, goes_by_element, goes_by_atom, profile, takes, EdgeBelow, EdgesBelow}
 use Rattle.flux_auto.specs.Automaton.{KeepsStates, EdgesInside}
 use Rattle.flux_auto.specs.Standing.{In, at, lists, Follows, FollowsAny, IsContent}
-use Rattle.flux_auto.specs.Built.{Grows, IsClosed, IsComplete, ClosedBelow, state_of, states_of}
+use Rattle.flux_auto.specs.Built.{Grows, IsClosed, IsComplete, state_of, states_of}
 use Rattle.flux_auto.proofs.Lists.{alone-in, in-alone}
-use Rattle.flux_auto.proofs.Tables.{at-grows, get-append}
+use Rattle.flux_auto.proofs.Tables.{at-grows}
 use Rattle.flux_auto.proofs.Growing.{carried}
 use Rattle.flux_auto.proofs.Reading.{content-list}
 

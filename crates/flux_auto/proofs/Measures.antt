@@ -1,8 +1,8 @@
 -- How much work a type is, with the names that stand in it outside elements.
-use Rattle.std.proofs.Common.{◌≡◌, ℕ, zero, suc, ◌+◌, ◌*◌, ◌<◌, ◌≤◌, List, [], ◌∷◌, Some, max, refl, inl, inr, arith}
+use Rattle.std.proofs.Common.{◌≡◌, ℕ, zero, suc, ◌+◌, ◌*◌, ◌<◌, ◌≤◌, [], ◌∷◌, Some, max, refl, inl, inr, arith}
 use Rattle.std.proofs.Math.Nat.{mul-le-mul_right}
 use Rattle.flux_schema.specs.Ty.{Ty, empty, atom, element, seq, alt, star, named, size}
-use Rattle.flux_schema.specs.Definitions.{Definition, Definitions, body_of, StandsIn, IsGood}
+use Rattle.flux_schema.specs.Definitions.{Definitions, body_of, StandsIn, IsGood}
 use Rattle.flux_schema.proofs.Ranks.{most, rank_of, rank-falls}
 
 -- the greatest size of a body

@@ -1,6 +1,5 @@
 -- What each form of a type is read as.
-use Rattle.std.proofs.Common.{◌≡◌, ℕ, zero, suc, ◌+◌, ◌<◌, ◌≤◌, ◌⊎◌, ◌↔◌, List, [], ◌∷◌, ◌++◌, length, Bool, true, false, cond, Some, slice_get, refl, sym, ap, ap₂, subst, ◌∙◌, inl, inr, arith, length-append}
-use Rattle.std.proofs.lemmas.List.{append-nil}
+use Rattle.std.proofs.Common.{◌≡◌, ℕ, ◌<◌, ◌↔◌, List, [], ◌∷◌, ◌++◌, length, Bool, true, false, cond, Some, slice_get, refl, sym, ap, ap₂, subst, ◌∙◌, inl, inr, arith, length-append}
 use Rattle.std.proofs.lemmas.Option.{slice_get_within}
 use Rattle.flux_atom.specs.declared.atom.AtomKind.{AtomKind}
 use Rattle.flux_trees.specs.Hedge.{Plain, nil, elem, leaf}
@@ -17,8 +16,8 @@ use Rattle.flux_auto.specs.Takes.{has, EdgesBelow}
 use Rattle.flux_auto.specs.Standing.{In, empties, TellsEmpty, at, lists, FollowsAny, Starts, Ready, Reads, IsContent}
 use Rattle.flux_auto.specs.Built.{Grows, Put, IsSet, IsEven, IsGround, IsOwn, OwnFrom, Linear}
 use Rattle.flux_auto.proofs.Lists.{empties-sound, empties-complete, starts-empty, starts-atom, atom-starts, starts-element, element-starts, starts-seq, seq-starts_first, seq-starts_second, starts-alt, alt-starts_left, alt-starts_right, starts-star, star-starts, starts-name, name-starts, alone-in, in-alone}
-use Rattle.flux_auto.proofs.Tables.{some_is, get-append, get-end, at-grows, at-cell, edges-append, any-left, any-right, any-cases, Reads-grows, IsOwn-grows, Ready-grows, BodiesReady-grows}
-use Rattle.flux_auto.proofs.Growing.{below_or_not, grows-length, grows_on, carried}
+use Rattle.flux_auto.proofs.Tables.{some_is, get-append, get-end, at-grows, at-cell, edges-append, any-left, any-right, any-cases, Reads-grows, IsOwn-grows, Ready-grows}
+use Rattle.flux_auto.proofs.Growing.{below_or_not, grows-length, carried}
 use Rattle.flux_auto.proofs.Contents.{put-even}
 
 module _ (defs : Definitions) where

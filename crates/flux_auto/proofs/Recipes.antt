@@ -1,15 +1,15 @@
 -- The laws of recipes, and of the search for a forest of each state.
-use Rattle.std.proofs.Common.{◌≡◌, ◌⊎◌, ℕ, zero, suc, ◌+◌, ◌*◌, ◌<◌, ◌≤◌, List, [], ◌∷◌, ◌++◌, Bool, true, false, ◌&&◌, ◌||◌, ◌==◌, Option, Some, None, length, map, slice_get, get_or, IsTrue, option_and_then, refl, sym, ap, ap₂, subst, ◌∙◌, inl, inr, arith, append_assoc, length-append}
+use Rattle.std.proofs.Common.{◌≡◌, ◌⊎◌, ℕ, zero, suc, ◌+◌, ◌<◌, ◌≤◌, List, [], ◌∷◌, ◌++◌, Bool, true, false, ◌&&◌, ◌||◌, ◌==◌, Option, Some, None, length, map, slice_get, IsTrue, option_and_then, refl, sym, ap, ap₂, subst, ◌∙◌, inl, inr, arith, append_assoc, length-append}
 use Rattle.std.specs.List.{list_any}
 use Rattle.std.specs.Option.{option_map, is_some}
 use Rattle.std.proofs.lemmas.Bool.{eq-eqb}
 use Rattle.std.proofs.Math.ListN.{set}
 use Rattle.std.proofs.lemmas.List.{append-nil, length-set}
-use Rattle.std.proofs.lemmas.Option.{slice_get_within, slice_get_read}
+use Rattle.std.proofs.lemmas.Option.{slice_get_within}
 use Rattle.flux_atom.specs.declared.atom.AtomKind.{AtomKind}
 use Rattle.flux_atom.specs.declared.atom.AtomKind.TheVariants as kind
 use Rattle.flux_atom.specs.Atom.{kind_of}
-use Rattle.flux_trees.specs.Hedge.{Plain, nil, elem, leaf, size}
+use Rattle.flux_trees.specs.Hedge.{Plain, nil, elem, leaf}
 use Rattle.flux_trees.specs.Draft.{Draft, done, IsWhole, outer}
 use Rattle.flux_schema.specs.Tidy.{same_kind}
 use Rattle.flux_schema.proofs.SameLaws.{same_kind-same}
@@ -19,9 +19,9 @@ use Rattle.flux_auto.specs.declared.table.Row.{Row}
 use Rattle.flux_auto.specs.declared.witness.Recipe.{Recipe}
 use Rattle.flux_auto.specs.declared.witness.Recipe.TheVariants.{End, Atom, Elem}
 use Rattle.flux_auto.specs.declared.witness.Witnesses.{Witnesses}
-use Rattle.flux_auto.specs.Takes.{State, has, goes_by_element, goes_by_atom, profile, profile_nil, takes}
+use Rattle.flux_auto.specs.Takes.{State, has, goes_by_element, goes_by_atom, profile, takes}
 use Rattle.flux_auto.specs.Built.{state_of}
-use Rattle.flux_auto.specs.Witness.{sample, forest_at, made, forests_after, forests, IsOlder, AreOlder, place, recipe_by, IsRecipe, Lacks, unplaced, Knows, SettledBelow, Settled, Tried, Round, IsTakenBy}
+use Rattle.flux_auto.specs.Witness.{sample, forest_at, made, forests_after, forests, IsOlder, AreOlder, place, recipe_by, IsRecipe, Lacks, unplaced, Knows, Settled, Tried, Round, IsTakenBy}
 use Rattle.flux_auto.proofs.Tables.{some_is, get-append, get-end, split_at}
 use Rattle.flux_auto.proofs.Growing.{below_or_not}
 use Rattle.flux_auto.proofs.Meaning.{got, has-map}

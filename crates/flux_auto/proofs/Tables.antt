@@ -1,5 +1,5 @@
 -- What states stand for stays as states are put at the end.
-use Rattle.std.proofs.Common.{◌≡◌, ℕ, zero, suc, ◌+◌, ◌<◌, ◌≤◌, ◌⊎◌, List, [], ◌∷◌, ◌++◌, length, Option, Some, None, slice_get, refl, sym, ap, ap₂, subst, ◌∙◌, inl, inr, arith, append_assoc, length-append}
+use Rattle.std.proofs.Common.{◌≡◌, ℕ, zero, suc, ◌+◌, ◌<◌, ◌≤◌, ◌⊎◌, List, [], ◌∷◌, ◌++◌, length, Some, slice_get, refl, sym, ap, subst, ◌∙◌, inl, inr, arith, append_assoc, length-append}
 use Rattle.std.proofs.Math.ListN.{set}
 use Rattle.std.proofs.lemmas.List.{append-nil}
 use Rattle.std.proofs.lemmas.Option.{slice_get_within}
@@ -12,7 +12,7 @@ use Rattle.flux_auto.specs.declared.edge.Edge.TheVariants.{Atom, Elem}
 use Rattle.flux_auto.specs.declared.table.Cell.{Cell}
 use Rattle.flux_auto.specs.declared.table.Row.{Row}
 use Rattle.flux_auto.specs.Takes.{EdgeBelow, EdgesBelow}
-use Rattle.flux_auto.specs.Standing.{In, list_of, at, lists_after, lists, Follows, FollowsAny, Starts, IsContent, HasContent, Ready, BodiesReady, Reads}
+use Rattle.flux_auto.specs.Standing.{In, list_of, at, lists_after, lists, Follows, FollowsAny, Starts, IsContent, Ready, BodiesReady, Reads}
 use Rattle.flux_auto.specs.Built.{IsOwn, IsClosed, IsFresh}
 
 pub get-append : {A : Type 0} (xs ys : List A) (i : ℕ) → i < length xs → slice_get (xs ++ ys) i ≡ slice_get xs i

@@ -9,7 +9,7 @@ use Rattle.flux_schema.specs.Tidy.{same_kind}
 use Rattle.flux_schema.proofs.SameLaws.{same_kind-eq, same_kind-same}
 use Rattle.flux_auto.specs.declared.edge.Edge.{Edge}
 use Rattle.flux_auto.specs.declared.edge.Edge.TheVariants.{Atom, Elem}
-use Rattle.flux_auto.specs.Takes.{State, has, goes_by_element, goes_by_atom, profile, takes}
+use Rattle.flux_auto.specs.Takes.{State, has, goes_by_element, goes_by_atom, profile}
 use Rattle.flux_auto.specs.TakesLaw.{SomeEdge, GoesByElement, GoesByAtom, TakesByEdges}
 
 both : (a b : Bool) → a && b ≡ true → (a ≡ true) × (b ≡ true)

@@ -1,5 +1,5 @@
 -- The search for the names whose types have the empty forest.
-use Rattle.std.specs.Prelude.{◌≡◌, ℕ, ◌<◌, ◌≤◌, Bool, true, false, List, Some, length}
+use Rattle.std.specs.Prelude.{◌≡◌, ℕ, ◌<◌, Bool, true, false, List, Some}
 use Rattle.flux_trees.specs.Hedge.{nil}
 use Rattle.flux_schema.specs.Ty.{Ty, named}
 use Rattle.flux_schema.specs.Definitions.{Definitions, body_of}

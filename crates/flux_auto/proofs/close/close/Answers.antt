@@ -1,4 +1,4 @@
-use Rattle.std.proofs.Common.{◌≡◌, true, false, refl, sym, ap, ◌∙◌, ◌++◌, arith, length, rules}
+use Rattle.std.proofs.Common.{refl, ap, ◌∙◌, ◌++◌, arith, rules}
 use Rattle.std.proofs.lemmas.Option.{slice_get_read}
 use Rattle.flux_auto.proofs.Closing.{close_alone, close_with, tail_within}
 use Rattle.flux_auto.proofs.close.close.Goals as goal

@@ -1,4 +1,4 @@
-use Rattle.std.proofs.Common.{refl, ◌∙◌, arith, length}
+use Rattle.std.proofs.Common.{refl, arith, length}
 use Rattle.flux_types.specs.Read.{ty_of}
 use Rattle.flux_auto.proofs.Growing.{grows_less, grows_same, grows_set}
 use Rattle.flux_auto.proofs.Reading.{null_iff}

@@ -1,8 +1,7 @@
 use Rattle.std.proofs.Common.{inl, inr}
 use Rattle.std.proofs.lemmas.Result.{on_ok_weaker}
-use Rattle.flux_schema.specs.Ty.{empty, atom, element, seq, alt, star, named}
 use Rattle.flux_types.specs.Read.{ty_of}
-use Rattle.flux_types.proofs.Variants.{of_empty, of_atom, of_elem, of_seq, of_alt, of_star, of_named}
+use Rattle.flux_types.proofs.Variants.{of_elem, of_seq, of_alt, of_star}
 use Rattle.flux_auto.proofs.Contents.{registered_leaf, registered_as, registered_star, registered_element, registered_seq, registered_alt}
 use Rattle.flux_auto.proofs.content.+register.Goals as goal
 

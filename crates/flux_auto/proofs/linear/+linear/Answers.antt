@@ -1,14 +1,14 @@
-use Rattle.std.proofs.Common.{◌≡◌, refl, sym, ap, ap₂, ◌∙◌, ◌↔◌, arith, subst, rules, true, false, cond, length, ◌++◌, [], ◌-◌}
+use Rattle.std.proofs.Common.{◌≡◌, sym, ap, ◌∙◌, arith, subst, rules, true, false, length, ◌++◌, []}
 use Rattle.std.proofs.lemmas.Result.{IfOk-weaker}
 use Rattle.std.proofs.lemmas.List.{append-nil}
-use Rattle.flux_schema.specs.Ty.{Ty, empty, atom, element, seq, alt, star, named}
+use Rattle.flux_schema.specs.Ty.{Ty, empty, atom, element, star, named}
 use Rattle.flux_types.specs.Read.{ty_of}
 use Rattle.flux_types.proofs.Variants.{of_empty, of_atom, of_elem, of_seq, of_alt, of_star, of_named}
 use Rattle.flux_auto.specs.Standing.{Ready}
 use Rattle.flux_auto.proofs.Measures.{weight, seq-left, seq-right, alt-left, alt-right, star-inner, body-less}
 use Rattle.flux_auto.proofs.Growing.{grows_on, grows_same}
 use Rattle.flux_auto.proofs.Contents.{found_state, put_as}
-use Rattle.flux_auto.proofs.Reading.{null_iff, next_ready, put_ready, put-grows, linear_as, linear_empty, linear_atom, linear_element, linear_alt, linear_seq, linear_star, linear_name}
+use Rattle.flux_auto.proofs.Reading.{null_iff, next_ready, put_ready, linear_as, linear_empty, linear_atom, linear_element, linear_alt, linear_seq, linear_star, linear_name}
 use Rattle.flux_auto.proofs.linear.+linear.Goals as goal
 
 pub linear-linear-requires : goal.linear-linear-requires

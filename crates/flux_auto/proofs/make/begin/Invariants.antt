@@ -1,4 +1,3 @@
-use Rattle.flux_auto.specs.Built.{IsBegun}
 use Rattle.flux_auto.proofs.Making.{Begins}
 use Rattle.flux_auto.proofs.make.begin.Given as goal
 

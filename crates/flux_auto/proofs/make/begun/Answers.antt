@@ -1,5 +1,4 @@
-use Rattle.std.proofs.Common.{[], true, refl, ◌≡◌}
-use Rattle.flux_types.specs.Read.{ty_of}
+use Rattle.std.proofs.Common.{[], true, refl}
 use Rattle.flux_types.proofs.Variants.{of_empty}
 use Rattle.flux_auto.proofs.Contents.{put_as}
 use Rattle.flux_auto.proofs.Making.{begun_with}

@@ -1,6 +1,6 @@
-use Rattle.std.proofs.Common.{◌≡◌, ◌∙◌, sym, subst, arith, length}
+use Rattle.std.proofs.Common.{◌∙◌, sym, subst, arith, length}
 use Rattle.flux_types.specs.Read.{ty_of}
-use Rattle.flux_auto.specs.Built.{Grows, FreshFrom, ClosedBelow}
+use Rattle.flux_auto.specs.Built.{FreshFrom, ClosedBelow}
 use Rattle.flux_auto.proofs.Growing.{grows_by}
 use Rattle.flux_auto.proofs.Making.{both_grow, extended_ground, extended_fresh, extended_closed, extended_by, has_end}
 use Rattle.flux_auto.proofs.make.extend.Goals as goal

@@ -1,4 +1,4 @@
-use Rattle.std.proofs.Common.{◌∙◌, arith}
+use Rattle.std.proofs.Common.{◌∙◌}
 use Rattle.flux_auto.proofs.Making.{cut_rows, on_err_any}
 use Rattle.flux_auto.proofs.make.extend_or_stay.Goals as goal
 

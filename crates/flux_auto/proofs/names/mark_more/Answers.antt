@@ -1,7 +1,5 @@
-use Rattle.std.proofs.Common.{arith, ◌+◌, inl, inr, ◌≡◌, ◌∙◌, sym, subst, ap, true, false, get_or, rules, refl}
-use Rattle.flux_schema.specs.Definitions.{body_of}
+use Rattle.std.proofs.Common.{arith, ◌+◌, inl, ◌∙◌, sym, subst, true, false, refl}
 use Rattle.flux_types.specs.Read.{ty_of}
-use Rattle.flux_auto.specs.Takes.{has}
 use Rattle.flux_auto.proofs.Marking.{Marking, marking_begins, marking_marks, marking_keeps, lacks_body, marking_ends}
 use Rattle.flux_auto.proofs.names.mark_more.Goals as goal
 use Rattle.flux_auto.proofs.names.mark_more.Goals.{then-not-names-index+then-has_empty, else-not-names-index, else-not-names-index-via-then-not-names-index+else-has_empty, else-not-names-index-via-else-not-names-index}

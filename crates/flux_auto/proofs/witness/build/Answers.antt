@@ -1,9 +1,7 @@
-use Rattle.std.proofs.Common.{refl, ◌≡◌, ◌∙◌, sym, ap, Some, slice_get, subst, List, ◌++◌, ◌∷◌, []}
-use Rattle.flux_auto.specs.declared.witness.Recipe.TheVariants.{End, Atom, Elem}
+use Rattle.std.proofs.Common.{◌∙◌, ap, ◌++◌, ◌∷◌, []}
+use Rattle.flux_auto.specs.declared.witness.Recipe.TheVariants.{Atom, Elem}
 use Rattle.flux_auto.specs.declared.witness.Task.{Task}
-use Rattle.flux_auto.specs.declared.witness.Task.TheVariants.{Write, Close}
-use Rattle.flux_auto.specs.Witness.{forest_at, forests}
-use Rattle.flux_auto.proofs.Building.{builds_begin, some_open, builds_close, close_less, here, builds_end, end_less, builds_atom, atom_less, builds_element, element_less, builds_done}
+use Rattle.flux_auto.proofs.Building.{some_open, builds_close, close_less, here, builds_end, end_less, builds_atom, atom_less, builds_element, element_less}
 use Rattle.flux_auto.proofs.witness.build.Goals as goal
 
 pub end_element-requires : goal.end_element-requires

@@ -1,7 +1,7 @@
-use Rattle.std.proofs.Common.{◌≡◌, ◌∙◌, ◌<◌, sym, ap, ap₂, refl, subst, List, Option, Some, None, ℕ, length}
+use Rattle.std.proofs.Common.{◌∙◌, ◌<◌, sym, ap, subst, List, Option, ℕ, length}
 use Rattle.flux_trees.specs.Draft.{done}
 use Rattle.flux_auto.specs.declared.witness.Recipe.{Recipe}
-use Rattle.flux_auto.specs.Witness.{place, AreOlder, forest_at, forests}
+use Rattle.flux_auto.specs.Witness.{place, forest_at, forests}
 use Rattle.flux_auto.proofs.Recipes.{untaken, taken_at}
 use Rattle.flux_auto.proofs.witness.some_of.Goals as goal
 

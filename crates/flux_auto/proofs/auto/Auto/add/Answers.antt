@@ -1,4 +1,4 @@
-use Rattle.std.proofs.Common.{◌≡◌, ◌∙◌, ◌++◌, ◌∷◌, [], subst, sym, ap, refl, arith, List, slice_get, Some, ℕ, Bool}
+use Rattle.std.proofs.Common.{◌≡◌, ◌∙◌, ◌++◌, ◌∷◌, [], subst, sym, ap, List, slice_get, Some, Bool}
 use Rattle.flux_types.specs.Read.{ty_of}
 use Rattle.flux_auto.specs.declared.auto.Added.{Added}
 use Rattle.flux_auto.specs.Automaton.{Automaton, KeepsStates}

@@ -1,4 +1,4 @@
-use Rattle.std.proofs.Common.{◌≡◌, ◌∙◌, ◌<◌, IfSome, subst, sym, ap, refl, arith, length, slice_get, get_or, map, ℕ, List, Bool}
+use Rattle.std.proofs.Common.{◌∙◌, ◌<◌, IfSome, subst, ap, refl, arith, length, slice_get, get_or, map, ℕ, List}
 use Rattle.std.proofs.lemmas.Option.{slice_get_read}
 use Rattle.std.proofs.lemmas.Result.{IfOk-weaker}
 use Rattle.flux_types.specs.Read.{ty_of}

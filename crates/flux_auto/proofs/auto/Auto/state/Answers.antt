@@ -1,4 +1,4 @@
-use Rattle.std.proofs.Common.{◌≡◌, ◌∙◌, ◌<◌, subst, sym, ap, refl, arith, length, IfSome, slice_get, get_or, ℕ}
+use Rattle.std.proofs.Common.{◌∙◌, ◌<◌, subst, ap, refl, arith, length, IfSome, slice_get, get_or, ℕ}
 use Rattle.std.proofs.lemmas.Option.{slice_get_read}
 use Rattle.flux_types.specs.Read.{ty_of}
 use Rattle.flux_auto.specs.declared.auto.Added.{Added}
