@@ -1,13 +1,12 @@
 -- A type that a query has is known, where those of its variables are.
-use Rattle.std.proofs.Common.{◌≡◌, ◌<◌, ℕ, Bool, true, false, ◌∷◌, Option, Some, length, refl, sym, subst, if◌then◌else◌}
-use Rattle.flux_schema.specs.Ty.{Ty, empty, atom, element, seq, alt, star, named, NamesBelow, IsWithinLimits}
-use Rattle.flux_schema.specs.Definitions.{Definitions, body_of, IsKnown, AreKnown}
+use Rattle.std.proofs.Common.{◌≡◌, ℕ, Bool, true, false, ◌∷◌, Option, Some, sym, subst, if◌then◌else◌}
+use Rattle.flux_schema.specs.Ty.{Ty, empty, element, seq, alt, star, named, IsWithinLimits}
+use Rattle.flux_schema.specs.Definitions.{Definitions, IsKnown, AreKnown}
 use Rattle.flux_schema.specs.Single.{Single, of_atom as of_atom_type, of_element as of_element_type, of_name as of_named}
 use Rattle.flux_types.specs.Kept.{AreKept}
-use Rattle.flux_calculus.specs.declared.ask.Test.{Test}
 use Rattle.flux_calculus.specs.declared.ask.Var.{Var}
 use Rattle.flux_calculus.specs.Query.{Query, found, same_var}
-use Rattle.flux_calculus.specs.Typing.{Context, Fault, Outcome, typed, faulty, too_large, is_within, concluded, Treatment, Goal, of_query, of_map, returning, keeping, IsAtomic, type_matches, kept, Types, of_nothing, of_one, of_several, first_of_several, others_of_several, of_element, content_of_element, of_literal, of_variable, of_no_variable, of_binding, bound_of_binding, of_choice, condition_of_choice, no_truth_of_choice, yes_of_choice, no_of_choice, of_alike, left_of_alike, right_of_alike, of_child, of_atom_child, of_many_child, of_no_child, of_filter, from_of_filter, of_each, over_of_each, returns, body_of_each, keeps, of_empty, of_seq, left_of_seq, right_of_seq, of_alt, left_of_alt, right_of_alt, of_star, inside_of_star, of_name}
+use Rattle.flux_calculus.specs.Typing.{Context, Outcome, typed, faulty, too_large, is_within, concluded, Treatment, Goal, of_query, of_map, returning, keeping, type_matches, kept, Types, of_nothing, of_one, of_several, first_of_several, others_of_several, of_element, content_of_element, of_literal, of_variable, of_no_variable, of_binding, bound_of_binding, of_choice, condition_of_choice, no_truth_of_choice, yes_of_choice, no_of_choice, of_alike, left_of_alike, right_of_alike, of_child, of_atom_child, of_many_child, of_no_child, of_filter, from_of_filter, of_each, over_of_each, returns, body_of_each, keeps, of_empty, of_seq, left_of_seq, right_of_seq, of_alt, left_of_alt, right_of_alt, of_star, inside_of_star, of_name}
 use Rattle.flux_querytype.specs.Faults.{IsUsable, AreUsable}
 use Rattle.flux_querytype.specs.Answers.{IsReady}
 

@@ -1,9 +1,9 @@
 -- Variables, and what the one tree of a type contains.
-use Rattle.std.proofs.Common.{◌≡◌, ◌⊎◌, ◌≤◌, ◌+◌, ℕ, Some, None, inl, inr, refl, sym, subst, arith}
+use Rattle.std.proofs.Common.{◌≡◌, ◌⊎◌, ℕ, Some, inl, inr, refl, sym, subst, arith}
 use Rattle.flux_atom.specs.declared.atom.AtomKind.{AtomKind}
-use Rattle.flux_schema.specs.Ty.{Ty, empty, atom, element, seq, alt, star, named, size, height, IsWithinLimits}
+use Rattle.flux_schema.specs.Ty.{Ty, empty, atom, element, IsWithinLimits}
 use Rattle.flux_schema.specs.Definitions.{Definitions}
-use Rattle.flux_schema.specs.Single.{Single, of_atom as of_atom_type, of_element, of_name, IsNotSingle}
+use Rattle.flux_schema.specs.Single.{Single, of_atom as of_atom_type, of_element, of_name}
 use Rattle.flux_types.specs.declared.ty.Ty.{Ty as Tree}
 use Rattle.flux_types.specs.declared.ty.Ty.TheVariants.{Empty, Atom, Elem, Seq, Alt, Star, Named}
 use Rattle.flux_types.specs.Kept.{AreKept}

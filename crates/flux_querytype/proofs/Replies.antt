@@ -1,8 +1,8 @@
 -- What comes of a type's parts comes of the type.
-use Rattle.std.proofs.Common.{◌≡◌, ◌⊎◌, inl, inr, ◌∙◌, ℕ, ◌+◌, Bool, true, false, ◌&&◌, arith, [], Some, Result, Ok, Err, IsErr, IsErrAnd, refl, sym, ap, subst, if◌then◌else◌}
+use Rattle.std.proofs.Common.{◌≡◌, ◌⊎◌, inl, inr, ℕ, Bool, true, false, ◌&&◌, arith, [], Some, Result, Ok, Err, IsErrAnd, refl, sym, subst, if◌then◌else◌}
 use Rattle.std.proofs.lemmas.Bool.{lt-ltb}
 use Rattle.flux_atom.specs.declared.atom.AtomKind.{AtomKind}
-use Rattle.flux_schema.specs.Ty.{Ty, empty, atom, element, seq, alt, star, named, size, height, IsWithinLimits}
+use Rattle.flux_schema.specs.Ty.{Ty, empty, seq, alt, star, named, size, height, IsWithinLimits}
 use Rattle.flux_schema.specs.Definitions.{Definitions, body_of}
 use Rattle.flux_types.specs.Kept.{AreKept}
 use Rattle.flux_types.specs.declared.ty.Ty.{Ty as Tree}

@@ -1,5 +1,5 @@
 -- How far a type can be walked, names unfolded, outside its elements.
-use Rattle.std.proofs.Common.{◌≡◌, ◌⊎◌, ◌<◌, ◌≤◌, ◌+◌, ◌*◌, ℕ, suc, max, Some, length, refl, inl, inr, subst, sym, arith, add-mul, suc-mul, add-one}
+use Rattle.std.proofs.Common.{◌≡◌, ◌<◌, ◌≤◌, ◌+◌, ◌*◌, ℕ, max, Some, length, refl, inl, inr, subst, sym, arith}
 use Rattle.flux_schema.specs.Ty.{Ty, empty, atom, element, seq, alt, star, named, size, IsWithinLimits}
 use Rattle.flux_schema.specs.Definitions.{Definitions, body_of, StandsIn, IsGood}
 use Rattle.flux_schema.proofs.Ranks.{most, rank_of, rank-falls, rank-bound}

@@ -1,14 +1,12 @@
 -- What comes of the parts of a query comes of the query.
-use Rattle.std.proofs.Common.{◌≡◌, ◌∙◌, ℕ, List, [], ◌∷◌, ◌++◌, append_assoc, length, Option, Some, ◌+◌, arith, Result, Ok, Err, IsErrAnd, IfErr, refl, sym, ap, subst}
+use Rattle.std.proofs.Common.{◌≡◌, ◌∙◌, ℕ, List, [], ◌∷◌, ◌++◌, append_assoc, length, Some, arith, Result, Ok, Err, IsErrAnd, IfErr, refl, sym, ap, subst}
 use Rattle.flux_atom.specs.declared.atom.Atom.{Atom as Leaf}
 use Rattle.flux_atom.specs.declared.atom.AtomKind.{AtomKind}
 use Rattle.flux_atom.specs.declared.atom.AtomKind.TheVariants as kind
 use Rattle.flux_atom.specs.Atom.{kind_of}
-use Rattle.flux_trees.specs.Hedge.{Plain}
-use Rattle.flux_trees.specs.Draft.{Draft, done}
+use Rattle.flux_trees.specs.Draft.{Draft}
 use Rattle.flux_schema.specs.Ty.{Ty, empty, atom, element, seq, alt}
 use Rattle.flux_schema.specs.Definitions.{Definitions, body_of}
-use Rattle.flux_schema.specs.Member.{Member, Included}
 use Rattle.flux_types.specs.declared.ty.Ty.{Ty as Tree}
 use Rattle.flux_types.specs.declared.ty.Ty.TheVariants.{Atom}
 use Rattle.flux_types.specs.declared.decider.Verdict.{Verdict}
@@ -20,7 +18,7 @@ use Rattle.flux_calculus.specs.declared.ask.Test.{Test}
 use Rattle.flux_calculus.specs.declared.ask.Var.{Var}
 use Rattle.flux_calculus.specs.Query as calculus
 use Rattle.flux_calculus.specs.Query.{nothing, both, element as element_query, literal, binding, choice, alike, filter, each, place_of}
-use Rattle.flux_calculus.specs.Typing.{Context, Treatment, not_bool, Fault, Outcome, typed, faulty, concluded, of_query, of_map, returning, keeping, IsAtomic, Types, of_nothing, of_one, of_several, first_of_several, others_of_several, of_element, content_of_element, of_literal, of_binding, bound_of_binding, of_choice, condition_of_choice, no_truth_of_choice, yes_of_choice, no_of_choice, of_alike, left_of_alike, right_of_alike, of_filter, from_of_filter, of_each, over_of_each, returns, body_of_each}
+use Rattle.flux_calculus.specs.Typing.{Context, Treatment, not_bool, Outcome, typed, faulty, of_query, returning, keeping, IsAtomic, Types, of_nothing, of_one, of_several, first_of_several, others_of_several, of_element, content_of_element, of_literal, of_binding, bound_of_binding, of_choice, condition_of_choice, no_truth_of_choice, yes_of_choice, no_of_choice, of_alike, left_of_alike, right_of_alike, of_filter, from_of_filter, of_each, over_of_each, returns, body_of_each}
 use Rattle.flux_query.specs.declared.query.Query.{Query}
 use Rattle.flux_query.specs.Read.{query_of, queries_of}
 use Rattle.flux_core.specs.declared.fault.KindFault.{KindFault}

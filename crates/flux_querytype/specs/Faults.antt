@@ -1,12 +1,12 @@
 -- What typing answers where there is no type.
-use Rattle.std.specs.Prelude.{◌≡◌, ℕ, Some}
+use Rattle.std.specs.Prelude.{◌≡◌, Some}
 use Rattle.flux_atom.specs.declared.atom.AtomKind.TheVariants as kind
 use Rattle.flux_schema.specs.Ty.{Ty, atom, IsWithinLimits}
 use Rattle.flux_schema.specs.Definitions.{Definitions, IsKnown}
 use Rattle.flux_types.specs.Verdicts.{IsEvidence}
 use Rattle.flux_calculus.specs.declared.ask.Var.{Var}
 use Rattle.flux_calculus.specs.Query.{Query, found}
-use Rattle.flux_calculus.specs.Typing.{Context, Outcome, faulty, unknown_variable, not_single, not_bool, too_large, concluded, of_query, Types}
+use Rattle.flux_calculus.specs.Typing.{Context, Outcome, faulty, unknown_variable, not_single, not_bool, too_large, of_query, Types}
 use Rattle.flux_core.specs.declared.fault.KindFault.{KindFault}
 use Rattle.flux_core.specs.declared.fault.KindFault.TheVariants.{UnknownVar, NotSingle, NotElement, NotEmpty, NotBool, BadArgument, BadFocus, BadBody, BadOutput, TypeTooLarge, Memory}
 

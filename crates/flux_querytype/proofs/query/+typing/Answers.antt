@@ -1,4 +1,4 @@
-use Rattle.std.proofs.Common.{rules, arith, refl, ◌∙◌, ◌+◌, ◌∷◌, Ok}
+use Rattle.std.proofs.Common.{rules, arith, refl, ◌∙◌, ◌∷◌, Ok}
 use Rattle.flux_atom.specs.declared.atom.AtomKind.TheVariants as kind
 use Rattle.flux_types.specs.declared.ty.Ty.TheVariants.{Atom}
 use Rattle.flux_types.specs.Read.{ty_of}
