@@ -3,6 +3,8 @@
 
 mod fault;
 mod gamma;
+#[cfg(test)]
+mod tests;
 
 pub use fault::KindFault;
 pub use gamma::{Gamma, Param};

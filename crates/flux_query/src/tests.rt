@@ -4,11 +4,11 @@ ghost use Rattle.flux_trees.specs.Hedge.{Plain};
 ghost use Rattle.flux_trees.specs.Draft.{depth};
 ghost use Rattle.flux_atom.specs.declared.atom.Atom.TheVariants.{Bool, Text as Words};
 ghost use Rattle.flux_calculus.specs.declared.ask.Var.TheVariants.{Made};
-ghost use Rattle.flux_calculus.specs.Query.{value, variable, literal, binding, choice, alike, each};
+ghost use Rattle.flux_calculus.specs.Query.{value, variable, literal, binding, choice, alike, child, filter, each};
 ghost use Rattle.flux_query.specs.Read.{query_of, queries_of};
 ghost use Rattle.flux_query.specs.Cases.{HasValue};
 
-use crate::{Env, Query, Span, Var, eval};
+use crate::{Env, Query, Span, Test, Var, eval};
 use flux_atom::{Atom, Boxed, Items, Name, Names, Word, is_name};
 use flux_forest::Forest;
 use std::alloc::{AllocError, Global};
@@ -62,6 +62,12 @@ fn var(x: u32) -> Query
     Query::Var(Var::Made(x), nowhere())
 }
 
+fn child_of(x: u32) -> Query
+    ensures { query_of result ≡ child 0 (Made x) }
+{
+    Query::Child(Var::Made(x), nowhere())
+}
+
 fn truth(truth: bool) -> Query
     ensures { query_of result ≡ literal 0 (Bool truth) }
 {
@@ -89,6 +95,12 @@ fn for_each(alloc: Global, x: u32, over: Query, body: Query) -> Result<Query, Al
         Boxed::new(alloc, body)?,
         nowhere(),
     ))
+}
+
+fn filtered(alloc: Global, from: Query, test: Test) -> Result<Query, AllocError>
+    ensures { IfOk result (λ q. query_of q ≡ filter 0 (query_of from) test) }
+{
+    Ok(Query::Filter(Boxed::new(alloc, from)?, test, nowhere()))
 }
 
 fn same(alloc: Global, left: Query, right: Query) -> Result<Query, AllocError>
@@ -141,6 +153,25 @@ fn gives(
     Ok(())
 }
 
+// for 1 in 0 return the trees inside 1 that have the label
+#[tactic(auto, using(crate::proofs::CaseLaws::cases))]
+fn labelled_inside(alloc: Global, label: Name) -> Result<Query, AllocError>
+    ensures { IfOk result (λ q. HasValue (query_of q)) }
+{
+    let inside = filtered(alloc, child_of(1), Test::Label(label))?;
+    let query = for_each(alloc, 1, var(0), inside)?;
+    Ok(query)
+}
+
+// for 1 in 0 return what 1 contains
+#[tactic(auto, using(crate::proofs::CaseLaws::cases))]
+fn all_inside(alloc: Global) -> Result<Query, AllocError>
+    ensures { IfOk result (λ q. HasValue (query_of q)) }
+{
+    let query = for_each(alloc, 1, var(0), child_of(1))?;
+    Ok(query)
+}
+
 // whether 0 is "T", true
 #[tactic(auto, using(crate::proofs::CaseLaws::cases))]
 fn is_text_and_truth(alloc: Global) -> Result<Query, AllocError>
@@ -159,6 +190,14 @@ fn twice(alloc: Global) -> Result<Query, AllocError>
     let over = list(vec![in alloc; text(alloc, "A")?, truth(false)]?);
     let twice = list(vec![in alloc; var(1), var(1)]?);
     let query = for_each(alloc, 1, over, twice)?;
+    Ok(query)
+}
+
+#[tactic(auto, using(crate::proofs::CaseLaws::cases))]
+fn passing(alloc: Global, test: Test) -> Result<Query, AllocError>
+    ensures { IfOk result (λ q. HasValue (query_of q)) }
+{
+    let query = filtered(alloc, var(0), test)?;
     Ok(query)
 }
 
@@ -202,6 +241,53 @@ fn alone(alloc: Global) -> Result<Query, AllocError>
     Ok(list(vec![in alloc; truth(true)]?))
 }
 
+fn author_of_book(rt: &impl Abort, alloc: Global, names: (Name, Name, Name)) -> Result<(), Fail> {
+    let (book, title, author) = names;
+    let steps = [
+        Begin(book),
+        Begin(title),
+        Text("T"),
+        End,
+        Begin(author),
+        Text("X"),
+        End,
+        End,
+    ];
+    let query = labelled_inside(alloc, author)?;
+    gives(rt, alloc, &steps, &query, &[Begin(author), Text("X"), End])
+}
+
+#[test]
+fn goes_over_trees(rt: HostRuntime) -> Result<(), Fail> {
+    let alloc = rt.alloc();
+    let mut names = Names::new(alloc);
+    let book = name(&rt, &mut names, "book")?;
+    let title = name(&rt, &mut names, "title")?;
+    let author = name(&rt, &mut names, "author")?;
+    author_of_book(&rt, alloc, (book, title, author))
+}
+
+#[test]
+fn shows_what_trees_contain(rt: HostRuntime) -> Result<(), Fail> {
+    let alloc = rt.alloc();
+    let mut names = Names::new(alloc);
+    let a = name(&rt, &mut names, "a")?;
+    let query = all_inside(alloc)?;
+    gives(
+        &rt,
+        alloc,
+        &[Begin(a), Text("T"), Truth(true), End],
+        &query,
+        &[Text("T"), Truth(true)],
+    )
+}
+
+#[test]
+fn shows_nothing_in_atoms(rt: HostRuntime) -> Result<(), Fail> {
+    let alloc = rt.alloc();
+    gives(&rt, alloc, &[Text("T")], &all_inside(alloc)?, &[])
+}
+
 #[test]
 fn compares_forests(rt: HostRuntime) -> Result<(), Fail> {
     let alloc = rt.alloc();
@@ -229,6 +315,48 @@ fn goes_over_atoms(rt: HostRuntime) -> Result<(), Fail> {
     let alloc = rt.alloc();
     let wanted = [Text("A"), Text("A"), Truth(false), Truth(false)];
     gives(&rt, alloc, &[], &twice(alloc)?, &wanted)
+}
+
+// What passes of an element a with "A" in it, "T", an element b and a truth value.
+fn passes(
+    rt: &impl Abort,
+    alloc: Global,
+    names: (Name, Name),
+    test: Test,
+    wanted: &[Step<'_>],
+) -> Result<(), Fail> {
+    let (a, b) = names;
+    let steps = [
+        Begin(a),
+        Text("A"),
+        End,
+        Text("T"),
+        Begin(b),
+        End,
+        Truth(true),
+    ];
+    let query = passing(alloc, test)?;
+    gives(rt, alloc, &steps, &query, wanted)
+}
+
+#[test]
+fn filters_elements(rt: HostRuntime) -> Result<(), Fail> {
+    let alloc = rt.alloc();
+    let mut names = Names::new(alloc);
+    let a = name(&rt, &mut names, "a")?;
+    let b = name(&rt, &mut names, "b")?;
+    passes(&rt, alloc, (a, b), Test::Label(b), &[Begin(b), End])?;
+    let elements = [Begin(a), Text("A"), End, Begin(b), End];
+    passes(&rt, alloc, (a, b), Test::AnyElement, &elements)
+}
+
+#[test]
+fn filters_atoms(rt: HostRuntime) -> Result<(), Fail> {
+    let alloc = rt.alloc();
+    let mut names = Names::new(alloc);
+    let a = name(&rt, &mut names, "a")?;
+    passes(&rt, alloc, (a, a), Test::OfText, &[Text("T")])?;
+    passes(&rt, alloc, (a, a), Test::OfBool, &[Truth(true)])
 }
 
 #[test]

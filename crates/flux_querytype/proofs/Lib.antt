@@ -5,3 +5,4 @@ pub mod Queries
 pub mod Leaves
 pub mod Known
 pub mod Typed
+pub mod Shown

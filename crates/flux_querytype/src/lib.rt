@@ -8,5 +8,7 @@ mod measured;
 mod parts;
 mod query;
 mod query_type;
+#[cfg(test)]
+mod tests;
 
 pub use query_type::type_query;

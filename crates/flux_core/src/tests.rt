@@ -1,0 +1,37 @@
+// What no clause says: that calls succeed, with what one works out by hand.
+ghost use Rattle.std.specs.Prelude.{◌≡◌, ◌+◌, length, OnOk};
+
+use crate::{Gamma, Param};
+use flux_atom::AtomKind;
+use flux_calculus::Var;
+use flux_types::Ty;
+use std::alloc::AllocError;
+use std::test::Fail;
+
+fn is_atom(ty: Option<&Ty>, kind: AtomKind) -> bool {
+    match ty {
+        Some(Ty::Atom(found)) => *found == kind,
+        _ => false,
+    }
+}
+
+fn bound(gamma: &mut Gamma, index: u32, kind: AtomKind) -> Result<(), AllocError>
+    ensures { OnOk result (length gamma.new ≡ length gamma.old + 1) }
+{
+    gamma.bind(Param {
+        var: Var::Made(index),
+        ty: Ty::Atom(kind),
+    })
+}
+
+#[test]
+fn the_last_bound_is_seen(rt: HostRuntime) -> Result<(), Fail> {
+    let mut gamma = Gamma::new(rt.alloc());
+    bound(&mut gamma, 0, AtomKind::Bool)?;
+    bound(&mut gamma, 0, AtomKind::Text)?;
+    assert!(rt; is_atom(gamma.get(Var::Made(0)), AtomKind::Text));
+    assert!(rt; gamma.get(Var::Made(1)).is_none());
+    gamma.unbind();
+    assert!(rt; is_atom(gamma.get(Var::Made(0)), AtomKind::Bool));
+    Ok(())
+}

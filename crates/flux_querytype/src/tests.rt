@@ -1,0 +1,431 @@
+// What no clause says: that calls succeed, with types and places worked out by hand.
+ghost use Rattle.std.specs.Prelude.{◌≡◌, ◌↔◌, [], false, IsTrue, IfOk, OnOk};
+ghost use Rattle.flux_atom.specs.declared.atom.Atom.TheVariants.{Text as Words};
+ghost use Rattle.flux_trees.specs.Hedge.{leaf, nil};
+ghost use Rattle.flux_trees.specs.Draft.{done};
+ghost use Rattle.flux_schema.specs.Ty.{atom, NamesBelow};
+ghost use Rattle.flux_types.specs.Read.{ty_of};
+ghost use Rattle.flux_types.specs.Kept.{AreKept};
+ghost use Rattle.flux_types.specs.Verdicts.{IsVerdict};
+ghost use Rattle.flux_querytype.specs.Faults.{IsUsable, AreUsable};
+
+use crate::type_query;
+use flux_atom::{Atom, AtomKind, Boxed, Items, Name, Names, Word, is_name};
+use flux_calculus::{Span, Test, Var};
+use flux_core::{Gamma, KindFault, Param};
+use flux_forest::{Forest, Head};
+use flux_query::Query;
+use flux_types::{Decider, Defs, Draft, Ty, Verdict, height, size, tidy};
+use std::alloc::{AllocError, Global};
+use std::process::Abort;
+use std::test::Fail;
+
+// Decides only that `string` isn't included in `bool`.
+#[derive(Drop)]
+struct Texts<'d> {
+    defs: &'d Defs,
+}
+
+#[tactic(auto, using(flux_types::proofs::Variants::of_atom))]
+fn is_atom(ty: &Ty, kind: AtomKind) -> bool
+    ensures { IsTrue result → ty_of ty.now ≡ atom kind }
+{
+    match ty {
+        Ty::Atom(found) => *found == kind,
+        _ => false,
+    }
+}
+
+// A text, where the types are `string` and `bool`.
+fn verdict(alloc: Global, defs: &Defs, left: &Ty, right: &Ty) -> Result<Verdict, AllocError>
+    ensures { IfOk result (IsVerdict defs.now (ty_of left.now) (ty_of right.now)) }
+{
+    if !is_atom(left, AtomKind::Text) || !is_atom(right, AtomKind::Bool) {
+        return Err(AllocError);
+    }
+    let shown = some_text(alloc)?;
+    Ok(Verdict::No(shown))
+}
+
+impl Decider for Texts<'_> {
+    ghost definitions = { λ d. d.defs.now };
+
+    ghost keeps = { λ _. false };
+
+    ghost known = { λ _. [] };
+
+    fn defs(&self) -> &Defs {
+        self.defs
+    }
+
+    fn included(&mut self, alloc: Global, left: &Ty, right: &Ty) -> Result<Verdict, AllocError> {
+        verdict(alloc, self.defs, left, right)
+    }
+}
+
+fn some_text(alloc: Global) -> Result<Forest, AllocError>
+    ensures { IfOk result (λ made. (word : Word) × (made ≡ done (leaf tt (Words word) nil))) }
+{
+    let word = Word::of(alloc, "text")?;
+    let mut made = Forest::new(alloc);
+    made.push_atom(Atom::Text(word))?;
+    Ok(made)
+}
+
+fn name(rt: &impl Abort, names: &mut Names, text: &str) -> Result<Name, AllocError> {
+    assert!(rt; is_name(text) && names.len() < 100);
+    names.intern(text)
+}
+
+fn is_known(ty: &Ty, count: u32) -> bool
+    ensures { IsTrue result ↔ NamesBelow count (ty_of ty.now) }
+{
+    match ty {
+        Ty::Empty | Ty::Atom(_) => true,
+        Ty::Elem(_, inner) | Ty::Star(inner) => is_known(inner.get(), count),
+        Ty::Seq(left, right) | Ty::Alt(left, right) => {
+            is_known(left.get(), count) && is_known(right.get(), count)
+        }
+        Ty::Named(index) => *index < count,
+    }
+}
+
+fn is_usable(ty: &Ty, defs: &Defs) -> bool
+    ensures usable { IsTrue result → IsUsable defs.now (ty_of ty.now) }
+    ensures kept { AreKept defs.now }
+{
+    let count = defs.len();
+    size(ty) <= 65_536 && height(ty) <= 500 && is_known(ty, count)
+}
+
+fn bind(rt: &impl Abort, gamma: &mut Gamma, ty: Ty, defs: &Defs) -> Result<(), AllocError>
+    requires { AreUsable defs.now gamma.old }
+    ensures { OnOk result (AreUsable defs.now gamma.new) }
+{
+    let usable = is_usable(&ty, defs);
+    assert!(rt; usable);
+    gamma.bind(Param {
+        var: Var::Made(0),
+        ty,
+    })?;
+    Ok(())
+}
+
+fn none_bound(alloc: Global, defs: &Defs) -> Gamma
+    ensures { AreUsable defs.now result }
+{
+    Gamma::new(alloc)
+}
+
+fn typed(alloc: Global, gamma: &mut Gamma, query: &Query, defs: &Defs) -> Result<Ty, KindFault>
+    requires { AreUsable defs.now gamma.old }
+    ensures { gamma.new ≡ gamma.old }
+{
+    let mut decider = Texts { defs };
+    type_query(alloc, gamma, query, &mut decider)
+}
+
+fn same(left: &Ty, right: &Ty) -> bool {
+    match (left, right) {
+        (Ty::Empty, Ty::Empty) => true,
+        (Ty::Atom(kind), Ty::Atom(other)) => kind == other,
+        (Ty::Elem(label, inner), Ty::Elem(other, content)) => {
+            label == other && same(inner.get(), content.get())
+        }
+        (Ty::Seq(t, u), Ty::Seq(v, w)) => same(t.get(), v.get()) && same(u.get(), w.get()),
+        (Ty::Alt(t, u), Ty::Alt(v, w)) => same(t.get(), v.get()) && same(u.get(), w.get()),
+        (Ty::Star(inner), Ty::Star(content)) => same(inner.get(), content.get()),
+        (Ty::Named(index), Ty::Named(other)) => index == other,
+        _ => false,
+    }
+}
+
+// Asserts that a query was typed so.
+fn assert_type(rt: &impl Abort, outcome: &Result<Ty, KindFault>, wanted: &Ty) {
+    match outcome {
+        Ok(ty) => assert!(rt; same(ty, wanted)),
+        Err(_) => assert!(rt; false),
+    }
+}
+
+fn element(alloc: Global, label: Name, inner: Ty) -> Result<Ty, AllocError> {
+    Ok(Ty::Elem(label, Boxed::new(alloc, inner)?))
+}
+
+fn seq(alloc: Global, left: Ty, right: Ty) -> Result<Ty, AllocError> {
+    Ok(Ty::Seq(Boxed::new(alloc, left)?, Boxed::new(alloc, right)?))
+}
+
+fn star(alloc: Global, inner: Ty) -> Result<Ty, AllocError> {
+    Ok(Ty::Star(Boxed::new(alloc, inner)?))
+}
+
+fn at(place: u32) -> Span {
+    Span {
+        from: place,
+        to: place,
+    }
+}
+
+fn seen(var: Var, place: u32) -> Query {
+    Query::Var(var, at(place))
+}
+
+fn text(alloc: Global, place: u32) -> Result<Query, AllocError> {
+    Ok(Query::Lit(Atom::Text(Word::of(alloc, "t")?), at(place)))
+}
+
+fn both(alloc: Global, first: Query, second: Query, place: u32) -> Result<Query, AllocError> {
+    let mut queries = Items::new(alloc);
+    queries.push(first)?;
+    queries.push(second)?;
+    Ok(Query::Concat(queries, at(place)))
+}
+
+fn binding(alloc: Global, var: Var, bound: Query, body: Query) -> Result<Query, AllocError> {
+    Ok(Query::Let(
+        var,
+        Boxed::new(alloc, bound)?,
+        Boxed::new(alloc, body)?,
+        at(0),
+    ))
+}
+
+fn each(alloc: Global, var: Var, over: Query, body: Query) -> Result<Query, AllocError> {
+    Ok(Query::For(
+        var,
+        Boxed::new(alloc, over)?,
+        Boxed::new(alloc, body)?,
+        at(0),
+    ))
+}
+
+fn no_definitions(alloc: Global) -> Result<Defs, Fail> {
+    Ok(Draft::new(alloc).close()?)
+}
+
+// author[string],author[string]*
+fn authors(alloc: Global, author: Name) -> Result<Ty, AllocError> {
+    let one = element(alloc, author, Ty::Atom(AtomKind::Text))?;
+    let each = element(alloc, author, Ty::Atom(AtomKind::Text))?;
+    let more = star(alloc, each)?;
+    seq(alloc, one, more)
+}
+
+// book[title[string],author[string],author[string]*]
+fn book(alloc: Global, names: &[Name; 3]) -> Result<Ty, AllocError> {
+    let title = element(alloc, names[1], Ty::Atom(AtomKind::Text))?;
+    let authors = authors(alloc, names[2])?;
+    let content = seq(alloc, title, authors)?;
+    element(alloc, names[0], content)
+}
+
+// for 1 in 0 return Filter(Child(1), author)
+fn authors_inside(alloc: Global, author: Name) -> Result<Query, AllocError> {
+    let child = Boxed::new(alloc, Query::Child(Var::Made(1), at(2)))?;
+    let body = Query::Filter(child, Test::Label(author), at(1));
+    each(alloc, Var::Made(1), seen(Var::Made(0), 0), body)
+}
+
+#[test]
+fn the_authors_of_a_book(rt: HostRuntime) -> Result<(), Fail> {
+    let alloc = rt.alloc();
+    let defs = no_definitions(alloc)?;
+    let mut names = Names::new(alloc);
+    let label = name(&rt, &mut names, "book")?;
+    let title = name(&rt, &mut names, "title")?;
+    let author = name(&rt, &mut names, "author")?;
+    let mut gamma = none_bound(alloc, &defs);
+    bind(
+        &rt,
+        &mut gamma,
+        book(alloc, &[label, title, author])?,
+        &defs,
+    )?;
+    let query = authors_inside(alloc, author)?;
+    match typed(alloc, &mut gamma, &query, &defs) {
+        Ok(ty) => {
+            let ty = tidy(alloc, &ty)?;
+            assert!(rt; same(&ty, &authors(alloc, author)?));
+        }
+        Err(_) => assert!(rt; false),
+    }
+    Ok(())
+}
+
+// Whether a condition at the place isn't a truth value, and a text is shown.
+fn shows_a_text(outcome: &Result<Ty, KindFault>, at: u32) -> bool {
+    match outcome {
+        Err(KindFault::NotBool { place, shown }) => *place == at && is_text(shown),
+        _ => false,
+    }
+}
+
+fn is_text(shown: &Forest) -> bool {
+    shown.is_whole() && matches!(shown.view().head(), Head::Atom(Atom::Text(_)))
+}
+
+// if "t" then "t" else "t"
+fn text_chooses(alloc: Global) -> Result<Query, AllocError> {
+    let condition = Boxed::new(alloc, text(alloc, 3)?)?;
+    let yes = Boxed::new(alloc, text(alloc, 4)?)?;
+    let no = Boxed::new(alloc, text(alloc, 5)?)?;
+    Ok(Query::If(condition, yes, no, at(1)))
+}
+
+#[test]
+fn a_text_as_a_condition(rt: HostRuntime) -> Result<(), Fail> {
+    let alloc = rt.alloc();
+    let defs = no_definitions(alloc)?;
+    let mut gamma = none_bound(alloc, &defs);
+    let query = text_chooses(alloc)?;
+    let outcome = typed(alloc, &mut gamma, &query, &defs);
+    assert!(rt; shows_a_text(&outcome, 3));
+    Ok(())
+}
+
+// a[]*
+fn many(alloc: Global, a: Name) -> Result<Ty, AllocError> {
+    let one = element(alloc, a, Ty::Empty)?;
+    star(alloc, one)
+}
+
+#[test]
+fn what_is_not_one_tree(rt: HostRuntime) -> Result<(), Fail> {
+    let alloc = rt.alloc();
+    let defs = no_definitions(alloc)?;
+    let mut names = Names::new(alloc);
+    let a = name(&rt, &mut names, "a")?;
+    let mut gamma = none_bound(alloc, &defs);
+    bind(&rt, &mut gamma, many(alloc, a)?, &defs)?;
+    let query = Query::Child(Var::Made(0), at(7));
+    let outcome = typed(alloc, &mut gamma, &query, &defs);
+    assert!(rt; matches!(outcome, Err(KindFault::NotSingle { place: 7 })));
+    Ok(())
+}
+
+#[test]
+fn what_is_not_bound(rt: HostRuntime) -> Result<(), Fail> {
+    let alloc = rt.alloc();
+    let defs = no_definitions(alloc)?;
+    let mut gamma = none_bound(alloc, &defs);
+    bind(&rt, &mut gamma, Ty::Empty, &defs)?;
+    let query = both(alloc, seen(Var::Made(0), 1), seen(Var::Made(1), 9), 0)?;
+    let outcome = typed(alloc, &mut gamma, &query, &defs);
+    assert!(rt; matches!(outcome, Err(KindFault::UnknownVar { place: 9 })));
+    Ok(())
+}
+
+// let 0 = true in (let 0 = "t" in 0), 0
+fn hidden(alloc: Global) -> Result<Query, AllocError> {
+    let inner = binding(alloc, Var::Made(0), text(alloc, 1)?, seen(Var::Made(0), 2))?;
+    let body = both(alloc, inner, seen(Var::Made(0), 3), 4)?;
+    binding(
+        alloc,
+        Var::Made(0),
+        Query::Lit(Atom::Bool(true), at(5)),
+        body,
+    )
+}
+
+#[test]
+fn a_variable_that_is_hidden_and_seen_again(rt: HostRuntime) -> Result<(), Fail> {
+    let alloc = rt.alloc();
+    let defs = no_definitions(alloc)?;
+    let mut gamma = none_bound(alloc, &defs);
+    let query = hidden(alloc)?;
+    let outcome = typed(alloc, &mut gamma, &query, &defs);
+    let wanted = seq(alloc, Ty::Atom(AtomKind::Text), Ty::Atom(AtomKind::Bool))?;
+    assert_type(&rt, &outcome, &wanted);
+    Ok(())
+}
+
+// The query in `depth` elements, the innermost at the place 0.
+fn nested(alloc: Global, label: Name, mut query: Query, depth: u32) -> Result<Query, AllocError> {
+    for place in 0..depth {
+        query = Query::Elem(label, Boxed::new(alloc, query)?, at(place));
+    }
+    Ok(query)
+}
+
+// The query, with the variable 15 bound to a sequence of 2^15 truth values: a type of 65,535 nodes.
+fn with_many(alloc: Global, mut query: Query) -> Result<Query, AllocError> {
+    for step in 0..15 {
+        let below = seen(Var::Made(14 - step), 97);
+        let bound = both(alloc, below, seen(Var::Made(14 - step), 98), 96)?;
+        query = binding(alloc, Var::Made(15 - step), bound, query)?;
+    }
+    binding(
+        alloc,
+        Var::Made(0),
+        Query::Lit(Atom::Bool(true), at(95)),
+        query,
+    )
+}
+
+fn large(alloc: Global, label: Name, depth: u32) -> Result<Query, AllocError> {
+    let query = nested(alloc, label, seen(Var::Made(15), 99), depth)?;
+    with_many(alloc, query)
+}
+
+#[test]
+fn a_type_at_the_limit(rt: HostRuntime) -> Result<(), Fail> {
+    let alloc = rt.alloc();
+    let defs = no_definitions(alloc)?;
+    let mut names = Names::new(alloc);
+    let a = name(&rt, &mut names, "a")?;
+    let mut gamma = none_bound(alloc, &defs);
+    let query = large(alloc, a, 1)?;
+    match typed(alloc, &mut gamma, &query, &defs) {
+        Ok(ty) => assert_eq!(rt; size(&ty), 65_536),
+        Err(_) => assert!(rt; false),
+    }
+    Ok(())
+}
+
+#[test]
+fn a_type_over_the_limit(rt: HostRuntime) -> Result<(), Fail> {
+    let alloc = rt.alloc();
+    let defs = no_definitions(alloc)?;
+    let mut names = Names::new(alloc);
+    let a = name(&rt, &mut names, "a")?;
+    let mut gamma = none_bound(alloc, &defs);
+    let query = large(alloc, a, 2)?;
+    let outcome = typed(alloc, &mut gamma, &query, &defs);
+    assert!(rt; matches!(outcome, Err(KindFault::TypeTooLarge { place: 1 })));
+    Ok(())
+}
+
+// X = a[X]*
+#[tactic(auto, using(flux_types::proofs::KeptLaws::counts))]
+fn recursive(rt: &impl Abort, alloc: Global, label: Name) -> Result<Defs, Fail> {
+    let mut draft = Draft::new(alloc);
+    let index = draft.declare(label)?;
+    let each = element(alloc, label, Ty::Named(0))?;
+    let body = star(alloc, each)?;
+    assert!(rt; is_known(&body, 1));
+    assert!(rt; size(&body) <= 65_536 && height(&body) <= 500);
+    draft.define(index, body)?;
+    Ok(draft.close()?)
+}
+
+// for 1 in 0 return Child(1)
+fn each_inside(alloc: Global) -> Result<Query, AllocError> {
+    let body = Query::Child(Var::Made(1), at(1));
+    each(alloc, Var::Made(1), seen(Var::Made(0), 0), body)
+}
+
+#[test]
+fn a_step_at_a_recursive_name(rt: HostRuntime) -> Result<(), Fail> {
+    let alloc = rt.alloc();
+    let mut names = Names::new(alloc);
+    let a = name(&rt, &mut names, "a")?;
+    let defs = recursive(&rt, alloc, a)?;
+    let mut gamma = none_bound(alloc, &defs);
+    bind(&rt, &mut gamma, Ty::Named(0), &defs)?;
+    let query = each_inside(alloc)?;
+    let outcome = typed(alloc, &mut gamma, &query, &defs);
+    let wanted = star(alloc, Ty::Named(0))?;
+    assert_type(&rt, &outcome, &wanted);
+    Ok(())
+}
