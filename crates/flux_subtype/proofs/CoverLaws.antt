@@ -23,7 +23,7 @@ answered_covered a ks moves q v of ne rest (inl silent) = inl (silent_dead a mov
 answered_covered a ks moves q v of ne rest (inr (i, l, f)) = inr (i, l, fires_profile a moves q (set_at ks i) v of ne rest f)
 
 stands_answered : (ks : List Kept) (ts : List Tree) (n j : ℕ) (moves : List Move) → Stands ts moves → AllAnswered ks ts n → j < n → Answered ks moves (set_at ks j)
-stands_answered ks ts n j moves (inl none) all l = inl (λ m h. absurd (has-none moves m none h))
+stands_answered ks ts n j moves (inl none) all l = inl (λ s r h. absurd (has-none moves h.0 none h.1))
 stands_answered ks ts n j moves (inr (t, at, is)) all l = subst (λ ms. Answered ks ms (set_at ks j)) is (all t j at l)
 
 pub all_covered : (a : List State) (ks : List Kept) (ts : List Tree) (n : ℕ) → length ks ≤ n → IsDone a ks ts n → (v : Plain) → IsCovered a ks v

@@ -13,7 +13,7 @@ use Rattle.flux_auto.specs.declared.edge.Edge.TheVariants.{Atom, Elem}
 use Rattle.flux_auto.specs.Takes.{State, has, goes_by_element, goes_by_atom, profile_nil, takes}
 use Rattle.flux_subtype.specs.declared.index.Move.{Move}
 use Rattle.flux_subtype.specs.Going.{Has, Goes, IsProfile, IsDead}
-use Rattle.flux_subtype.specs.Index.{ByElement}
+use Rattle.flux_subtype.specs.Index.{Moves, ByElement}
 use Rattle.flux_subtype.specs.Search.{Fires, IsSilent}
 
 both : (a b : Bool) → a && b ≡ true → (a ≡ true) × (b ≡ true)
@@ -111,7 +111,7 @@ profile-nil a s = ((λ h. h), (λ h. h))
 
 -- the moves are those by the first tree of the forest
 abbrev pub MovesOf : List State → List Move → Plain → Type 0
-MovesOf a moves v = (s r : ℕ) → Has moves (record { from = s; to = r }) ↔ Goes a s v r
+MovesOf a moves v = (s r : ℕ) → Moves moves s r ↔ Goes a s v r
 
 pub element_moves : (a : List State) (n : ℕ) (p : List Bool) (moves : List Move) (c w : Plain) → ByElement a n p moves → IsProfile a p c → MovesOf a moves (elem tt n c w)
 element_moves a n p moves c w by is s r =
@@ -119,11 +119,11 @@ element_moves a n p moves c w by is s r =
 
 pub fires_profile : (a : List State) (moves : List Move) (q p : List Bool) (v : Plain) → MovesOf a moves v → (v ≡ nil → ⊥) → IsProfile a q (others v) → Fires moves q p → IsProfile a p v
 fires_profile a moves q p v of ne rest f s = (
-  (λ h. let m = (f s).0 h in goes_takes a s v m.0.to ((of s m.0.to).0 (subst (λ x. Has moves (record { from = x; to = m.0.to })) m.2 m.1)) ((rest m.0.to).0 m.3)),
-  (λ t. let g = takes_goes a s v ne t in (f s).1 (record { from = s; to = g.0 }, (of s g.0).1 g.1, refl, (rest g.0).1 g.2)),
+  (λ h. let m = (f s).0 h in goes_takes a s v m.0 ((of s m.0).0 m.1) ((rest m.0).0 m.2)),
+  (λ t. let g = takes_goes a s v ne t in (f s).1 (g.0, (of s g.0).1 g.1, (rest g.0).1 g.2)),
 )
 
 pub silent_dead : (a : List State) (moves : List Move) (q : List Bool) (v : Plain) → MovesOf a moves v → (v ≡ nil → ⊥) → IsProfile a q (others v) → IsSilent moves q → IsDead a v
 silent_dead a moves q v of ne rest f s t =
     let g = takes_goes a s v ne t in
-    f (record { from = s; to = g.0 }) ((of s g.0).1 g.1) ((rest g.0).1 g.2)
+    f s g.0 ((of s g.0).1 g.1) ((rest g.0).1 g.2)

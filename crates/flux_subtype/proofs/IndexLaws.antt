@@ -2,6 +2,7 @@
 use Rattle.std.proofs.Common.{◌≡◌, ◌⊎◌, ◌↔◌, ℕ, zero, suc, ◌+◌, ◌<◌, ◌≤◌, List, [], ◌∷◌, ◌++◌, length, Bool, true, false, Some, slice_get, refl, sym, ap, subst, ◌∙◌, inl, inr, arith}
 use Rattle.std.proofs.Math.ListN.{set}
 use Rattle.std.proofs.lemmas.Option.{slice_get_within}
+use Rattle.flux_atom.specs.declared.atom.AtomKind.{AtomKind}
 use Rattle.flux_atom.specs.declared.atom.AtomKind.TheVariants as kind
 use Rattle.flux_auto.specs.declared.edge.Edge.{Edge}
 use Rattle.flux_auto.specs.declared.edge.Edge.TheVariants.{Atom, Elem}
@@ -11,206 +12,296 @@ use Rattle.flux_subtype.specs.declared.index.Link.{Link}
 use Rattle.flux_subtype.specs.declared.index.Group.{Group}
 use Rattle.flux_subtype.specs.declared.index.Index.{Index}
 use Rattle.flux_subtype.specs.Going.{Has, HasEdge}
-use Rattle.flux_subtype.specs.Index.{HasLink, Listed, Differ, AddsEdge, AddsEdges, IndexesBelow, Indexes, IndexesGroups, Follows, ByLinks}
-use Rattle.flux_subtype.proofs.Places.{get-push, get-set_here, get-set_other, some_is, below_or_at, same_or_not, has-append, has-last, has-push, has-nil}
+use Rattle.flux_subtype.specs.Index.{Moves, Links, HasLink, moves_of, Listed, Differ, AreWide, AreWideLinks, AreWideGroups, IsWide, AddsMove, AddsLink, FindsLink, FindsGroup, AddsEdge, AddsEdges, IndexesBelow, Indexes, IndexesGroups, Follows, ByLinks}
+use Rattle.flux_subtype.proofs.Places.{get-end, get-push, get-set_here, get-set_other, some_is, below_or_at, same_or_not, has-append, has-last, has-push, has-nil, has-right, has-split, has-set, set-has}
 
 -- ---- moves
 
-move_push : (ms : List Move) (s t r q : ℕ) → Has (ms ++ (record { from = s; to = r }) ∷ []) (record { from = t; to = q }) → Has ms (record { from = t; to = q }) ⊎ ((t ≡ s) × (q ≡ r))
-move_push ms s t r q h =
-    let old : Move = record { from = s; to = r } in
-    let new : Move = record { from = t; to = q } in
-    elim (has-push ms old new h) [ inl g ↦ inl g | inr e ↦ inr (ap (λ (m : Move). m.from) (sym e), ap (λ (m : Move). m.to) (sym e)) ]
+-- a set with the one state s more
+abbrev pub Inserts : List Bool → List Bool → ℕ → Type 0
+Inserts old new s = (t : ℕ) → (has new t ≡ true) ↔ ((t ≡ s) ⊎ (has old t ≡ true))
 
-push_move : (ms : List Move) (s t r q : ℕ) → Has ms (record { from = t; to = q }) ⊎ ((t ≡ s) × (q ≡ r)) → Has (ms ++ (record { from = s; to = r }) ∷ []) (record { from = t; to = q })
-push_move ms s t r q (inl h) = has-append ms _ _ h
-push_move ms s t r q (inr (e, f)) =
-    let last : Has (ms ++ (record { from = s; to = r }) ∷ []) (record { from = s; to = r }) = has-last ms _ in
-    subst (λ x. Has (ms ++ (record { from = s; to = r }) ∷ []) (record { from = x; to = q })) (sym e)
-    (subst (λ x. Has (ms ++ (record { from = s; to = r }) ∷ []) (record { from = s; to = x })) (sym f) last)
+-- the move at a place has one state more
+pub more_at : (n : ℕ) (old new : List Move) (s r i : ℕ) (m x : Move) → AreWide n old → slice_get old i ≡ Some m → m.to ≡ r → new ≡ set old i x → x.to ≡ m.to → length x.from ≡ length m.from → Inserts m.from x.from s → AddsMove n old new s r
+more_at n old new s r i m x wide here to is same long inserts = record {
+  wide = λ y h. elim (has-set old i x y (subst (λ l. Has l y) is h)) [
+    | inl e ↦ ap (λ (z : Move). length z.from) e ∙ long ∙ wide m (i, here)
+    | inr k ↦ wide y (k.0, k.2)
+  ];
+  moves = λ t q. ((λ h. forth t q (subst (λ l. Moves l t q) is h)), (λ h. subst (λ l. Moves l t q) (sym is) (back t q h)));
+}
+  where
+    inside : i < length old
+    inside = slice_get_within old i m here
 
--- the edges of an index whose groups and other moves stay as they were
-pub adds_bool : (old new : Index) (s r : ℕ) → new.bools.items ≡ old.bools.items ++ (record { from = s; to = r }) ∷ [] → new.texts.items ≡ old.texts.items → new.groups.items ≡ old.groups.items → AddsEdge old new s (Atom kind.Bool r)
-adds_bool old new s r e f g = record {
+    at_place : Has (set old i x) x
+    at_place = (i, get-set_here old i x inside)
+
+    forth : (t q : ℕ) → Moves (set old i x) t q → Moves old t q ⊎ ((t ≡ s) × (q ≡ r))
+    forth t q (y, h, e, on) = elim (has-set old i x y h) [
+      | inr k ↦ inl (y, (k.0, k.2), e, on)
+      | inl y_is ↦ elim ((inserts t).0 (subst (λ (z : Move). has z.from t ≡ true) y_is on)) [
+        | inl t_is ↦ inr (t_is, sym e ∙ ap (λ (z : Move). z.to) y_is ∙ same ∙ to)
+        | inr was ↦ inl (m, (i, here), sym same ∙ ap (λ (z : Move). z.to) (sym y_is) ∙ e, was)
+      ]
+    ]
+
+    back : (t q : ℕ) → Moves old t q ⊎ ((t ≡ s) × (q ≡ r)) → Moves (set old i x) t q
+    back t q (inr p) = (x, at_place, same ∙ to ∙ sym p.1, (inserts t).1 (inl p.0))
+    back t q (inl (y, (j, at), e, on)) = elim (same_or_not j i) [
+      | inr ne ↦ (y, set-has old i j x y ne at, e, on)
+      | inl j_is ↦
+          let y_is : y ≡ m = some_is y m (sym at ∙ ap (slice_get old) j_is ∙ here) in
+          (x, at_place, same ∙ ap (λ (z : Move). z.to) (sym y_is) ∙ e, (inserts t).1 (inr (subst (λ (z : Move). has z.from t ≡ true) y_is on)))
+    ]
+
+-- a move from the one state is put at the end
+pub one_more : (n : ℕ) (old new : List Move) (s r : ℕ) (none : List Bool) (x : Move) → AreWide n old → new ≡ old ++ x ∷ [] → x.to ≡ r → length x.from ≡ n → ((t : ℕ) → has none t ≡ false) → Inserts none x.from s → AddsMove n old new s r
+one_more n old new s r none x wide is to long empty inserts = record {
+  wide = λ y h. elim (has-push old x y (subst (λ l. Has l y) is h)) [ inl was ↦ wide y was | inr e ↦ subst (λ (z : Move). length z.from ≡ n) e long ];
+  moves = λ t q. (
+    (λ h. elim (has-push old x h.0 (subst (λ l. Has l h.0) is h.1)) [
+      | inl was ↦ inl (h.0, was, h.2, h.3)
+      | inr e ↦ elim ((inserts t).0 (subst (λ (z : Move). has z.from t ≡ true) (sym e) h.3)) [
+        | inl t_is ↦ inr (t_is, sym h.2 ∙ ap (λ (z : Move). z.to) (sym e) ∙ to)
+        | inr on ↦ absurd (let y : true ≡ false = sym on ∙ empty t in cc)
+      ]
+    ]),
+    (λ h. subst (λ l. Moves l t q) (sym is) (elim h [
+      | inl was ↦ (was.0, has-append old (x ∷ []) was.0 was.1, was.2, was.3)
+      | inr p ↦ (x, has-last old x, to ∙ sym p.1, (inserts t).1 (inl p.0))
+    ])),
+  );
+}
+
+-- ---- links
+
+pub link_here : (links : List Link) (c i : ℕ) → (l : Link) × (slice_get links i ≡ Some l) × (l.content ≡ c) → FindsLink links links c i
+link_here links c i there = record { there = there; wide = λ n w. w; same = λ t d q. ((λ h. h), (λ h. h)) }
+
+pub link_new : (old new : List Link) (c i : ℕ) (x : Link) → new ≡ old ++ x ∷ [] → i ≡ length old → x.content ≡ c → x.moves.items ≡ [] → FindsLink old new c i
+link_new old new c i x is at content none = record {
+  there = (x, ap (λ l. slice_get l i) is ∙ ap (slice_get (old ++ x ∷ [])) at ∙ get-end old x [], content);
+  wide = λ n w l h. elim (has-push old x l (subst (λ k. Has k l) is h)) [
+    | inl was ↦ w l was
+    | inr e ↦ (λ m k. absurd (has-nil m (subst (λ ms. Has ms m) (ap (λ (z : Link). z.moves.items) (sym e) ∙ none) k)))
+  ];
+  same = λ t d q. (
+    (λ h. elim (has-push old x h.0 (subst (λ k. Has k h.0) is h.1)) [
+      | inl was ↦ (h.0, was, h.2, h.3)
+      | inr e ↦ (let m = h.3 in absurd (has-nil m.0 (subst (λ ms. Has ms m.0) (ap (λ (z : Link). z.moves.items) (sym e) ∙ none) m.1)))
+    ]),
+    (λ h. subst (λ k. Links k t d q) (sym is) (h.0, has-append old (x ∷ []) h.0 h.1, h.2, h.3)),
+  );
+}
+
+-- the link at a place has one move more
+pub link_more : (n : ℕ) (old mid new : List Link) (s c r i : ℕ) (l x : Link) → AreWideLinks n old → FindsLink old mid c i → slice_get mid i ≡ Some l → new ≡ set mid i x → x.content ≡ l.content → AddsMove n l.moves.items x.moves.items s r
+    → AddsLink n old new s c r
+link_more n old mid new s c r i l x wide finds here is same adds = record {
+  wide = λ y h. elim (has-set mid i x y (subst (λ k. Has k y) is h)) [
+    | inl e ↦ subst (λ (z : Link). AreWide n z.moves.items) (sym e) adds.wide
+    | inr k ↦ finds.wide n wide y (k.0, k.2)
+  ];
+  links = λ t d q. ((λ h. forth t d q (subst (λ k. Links k t d q) is h)), (λ h. subst (λ k. Links k t d q) (sym is) (back t d q h)));
+}
+  where
+    inside : i < length mid
+    inside = slice_get_within mid i l here
+
+    at_place : Has (set mid i x) x
+    at_place = (i, get-set_here mid i x inside)
+
+    content : l.content ≡ c
+    content = ap (λ (z : Link). z.content) (some_is l finds.there.0 (sym here ∙ finds.there.1)) ∙ finds.there.2
+
+    forth : (t d q : ℕ) → Links (set mid i x) t d q → Links old t d q ⊎ ((t ≡ s) × (d ≡ c) × (q ≡ r))
+    forth t d q (y, h, e, m) = elim (has-set mid i x y h) [
+      | inr k ↦ inl ((finds.same t d q).0 (y, (k.0, k.2), e, m))
+      | inl y_is ↦ elim ((adds.moves t q).0 (subst (λ (z : Link). Moves z.moves.items t q) y_is m)) [
+        | inl was ↦ inl ((finds.same t d q).0 (l, (i, here), sym same ∙ ap (λ (z : Link). z.content) (sym y_is) ∙ e, was))
+        | inr p ↦ inr (p.0, sym e ∙ ap (λ (z : Link). z.content) y_is ∙ same ∙ content, p.1)
+      ]
+    ]
+
+    back : (t d q : ℕ) → Links old t d q ⊎ ((t ≡ s) × (d ≡ c) × (q ≡ r)) → Links (set mid i x) t d q
+    back t d q (inr p) = (x, at_place, same ∙ content ∙ sym p.1, (adds.moves t q).1 (inr (p.0, p.2)))
+    back t d q (inl was) = kept ((finds.same t d q).1 was)
+      where
+        kept : Links mid t d q → Links (set mid i x) t d q
+        kept (y, (j, at), e, m) = elim (same_or_not j i) [
+          | inr ne ↦ (y, set-has mid i j x y ne at, e, m)
+          | inl j_is ↦
+              let y_is : y ≡ l = some_is y l (sym at ∙ ap (slice_get mid) j_is ∙ here) in
+              (x, at_place, same ∙ ap (λ (z : Link). z.content) (sym y_is) ∙ e, (adds.moves t q).1 (inl (subst (λ (z : Link). Moves z.moves.items t q) y_is m)))
+        ]
+
+-- ---- groups that are found
+
+pub group_here : (groups : List Group) (n i : ℕ) → (g : Group) × (slice_get groups i ≡ Some g) × (g.label ≡ n) → FindsGroup groups groups n i
+group_here groups n i there = record { there = there; differ = λ d. d; wide = λ k w. w; same = λ t m d q. ((λ h. h), (λ h. h)) }
+
+pub group_new : (old new : List Group) (n i : ℕ) (x : Group) → new ≡ old ++ x ∷ [] → i ≡ length old → x.label ≡ n → x.links.items ≡ [] → ((h : Group) → Has old h → h.label ≡ n → ⊥) → FindsGroup old new n i
+group_new old new n i x is at label none fresh = record {
+  there = (x, ap (λ l. slice_get l i) is ∙ ap (slice_get (old ++ x ∷ [])) at ∙ get-end old x [], label);
+  differ = λ d. subst Differ (sym is) (differ d);
+  wide = λ k w g h. elim (has-push old x g (subst (λ l. Has l g) is h)) [
+    | inl was ↦ w g was
+    | inr e ↦ (λ l m. absurd (has-nil l (subst (λ ls. Has ls l) (ap (λ (z : Group). z.links.items) (sym e) ∙ none) m)))
+  ];
+  same = λ t m d q. (
+    (λ h. elim (has-push old x h.0 (subst (λ l. Has l h.0) is h.1)) [
+      | inl was ↦ (h.0, was, h.2, h.3)
+      | inr e ↦ (let l = h.3 in absurd (has-nil l.0 (subst (λ ls. Has ls l.0) (ap (λ (z : Group). z.links.items) (sym e) ∙ none) l.1)))
+    ]),
+    (λ h. subst (λ l. HasLink l t m d q) (sym is) (h.0, has-append old (x ∷ []) h.0 h.1, h.2, h.3)),
+  );
+}
+  where
+    differ : Differ old → Differ (old ++ x ∷ [])
+    differ d j k g h p q same = both (get-push old x j g p) (get-push old x k h q)
+      where
+        both : ((j < length old) × (slice_get old j ≡ Some g)) ⊎ ((j ≡ length old) × (x ≡ g)) → ((k < length old) × (slice_get old k ≡ Some h)) ⊎ ((k ≡ length old) × (x ≡ h)) → j ≡ k
+        both (inl a) (inl b) = d j k g h a.1 b.1 same
+        both (inl a) (inr b) = absurd (fresh g (j, a.1) (same ∙ ap (λ (z : Group). z.label) (sym b.1) ∙ label))
+        both (inr a) (inl b) = absurd (fresh h (k, b.1) (sym same ∙ ap (λ (z : Group). z.label) (sym a.1) ∙ label))
+        both (inr a) (inr b) = a.0 ∙ sym b.0
+
+-- ---- one edge
+
+wide_kinds : (n : ℕ) (bools texts : List Move) (index : Index) → index.bools.items ≡ bools → index.texts.items ≡ texts → AreWide n bools → AreWide n texts → (k : AtomKind) → AreWide n (moves_of index k)
+wide_kinds n bools texts index e f one two kind.Bool = subst (AreWide n) (sym e) one
+wide_kinds n bools texts index e f one two kind.Text = subst (AreWide n) (sym f) two
+
+-- an index with a move by truth values more
+pub adds_bool : (n : ℕ) (old new : Index) (s r : ℕ) → IsWide n old → AddsMove n old.bools.items new.bools.items s r → new.texts.items ≡ old.texts.items → new.groups.items ≡ old.groups.items → AddsEdge n old new s (Atom kind.Bool r)
+adds_bool n old new s r wide adds f g = record {
   differ = λ d. subst Differ (sym g) d;
+  wide = record { kinds = wide_kinds n _ _ new refl f adds.wide (wide.kinds kind.Text); groups = subst (AreWideGroups n) (sym g) wide.groups };
   listed = at;
 }
   where
     at : (t : ℕ) (x : Edge) → Listed new t x ↔ (Listed old t x ⊎ ((t ≡ s) × (x ≡ Atom kind.Bool r)))
     at t (Atom kind.Bool q) = (
-      (λ h. elim (move_push old.bools.items s t r q (subst (λ l. Has l (record { from = t; to = q })) e h)) [ inl k ↦ inl k | inr p ↦ inr (p.0, ap (Atom kind.Bool) p.1) ]),
-      (λ h. subst (λ l. Has l (record { from = t; to = q })) (sym e) (push_move old.bools.items s t r q (elim h [ inl k ↦ inl k | inr p ↦ inr (p.0, (let same = p.1 in cc)) ]))),
+      (λ h. elim ((adds.moves t q).0 h) [ inl k ↦ inl k | inr p ↦ inr (p.0, ap (Atom kind.Bool) p.1) ]),
+      (λ h. (adds.moves t q).1 (elim h [ inl k ↦ inl k | inr p ↦ inr (p.0, (let same = p.1 in cc)) ])),
     )
     at t (Atom kind.Text q) = (
-      (λ h. inl (subst (λ l. Has l (record { from = t; to = q })) f h)),
-      (λ h. elim h [ inl k ↦ subst (λ l. Has l (record { from = t; to = q })) (sym f) k | inr p ↦ absurd (let same = p.1 in let un : kind.Text ≡ kind.Bool = cc in cc) ]),
+      (λ h. inl (subst (λ l. Moves l t q) f h)),
+      (λ h. elim h [ inl k ↦ subst (λ l. Moves l t q) (sym f) k | inr p ↦ absurd (let same = p.1 in let un : kind.Text ≡ kind.Bool = cc in cc) ]),
     )
     at t (Elem n c q) = (
       (λ h. inl (subst (λ l. HasLink l t n c q) g h)),
       (λ h. elim h [ inl k ↦ subst (λ l. HasLink l t n c q) (sym g) k | inr p ↦ absurd (let same = p.1 in cc) ]),
     )
 
-pub adds_text : (old new : Index) (s r : ℕ) → new.texts.items ≡ old.texts.items ++ (record { from = s; to = r }) ∷ [] → new.bools.items ≡ old.bools.items → new.groups.items ≡ old.groups.items → AddsEdge old new s (Atom kind.Text r)
-adds_text old new s r e f g = record {
+pub adds_text : (n : ℕ) (old new : Index) (s r : ℕ) → IsWide n old → AddsMove n old.texts.items new.texts.items s r → new.bools.items ≡ old.bools.items → new.groups.items ≡ old.groups.items → AddsEdge n old new s (Atom kind.Text r)
+adds_text n old new s r wide adds f g = record {
   differ = λ d. subst Differ (sym g) d;
+  wide = record { kinds = wide_kinds n _ _ new f refl (wide.kinds kind.Bool) adds.wide; groups = subst (AreWideGroups n) (sym g) wide.groups };
   listed = at;
 }
   where
     at : (t : ℕ) (x : Edge) → Listed new t x ↔ (Listed old t x ⊎ ((t ≡ s) × (x ≡ Atom kind.Text r)))
     at t (Atom kind.Text q) = (
-      (λ h. elim (move_push old.texts.items s t r q (subst (λ l. Has l (record { from = t; to = q })) e h)) [ inl k ↦ inl k | inr p ↦ inr (p.0, ap (Atom kind.Text) p.1) ]),
-      (λ h. subst (λ l. Has l (record { from = t; to = q })) (sym e) (push_move old.texts.items s t r q (elim h [ inl k ↦ inl k | inr p ↦ inr (p.0, (let same = p.1 in cc)) ]))),
+      (λ h. elim ((adds.moves t q).0 h) [ inl k ↦ inl k | inr p ↦ inr (p.0, ap (Atom kind.Text) p.1) ]),
+      (λ h. (adds.moves t q).1 (elim h [ inl k ↦ inl k | inr p ↦ inr (p.0, (let same = p.1 in cc)) ])),
     )
     at t (Atom kind.Bool q) = (
-      (λ h. inl (subst (λ l. Has l (record { from = t; to = q })) f h)),
-      (λ h. elim h [ inl k ↦ subst (λ l. Has l (record { from = t; to = q })) (sym f) k | inr p ↦ absurd (let same = p.1 in let un : kind.Bool ≡ kind.Text = cc in cc) ]),
+      (λ h. inl (subst (λ l. Moves l t q) f h)),
+      (λ h. elim h [ inl k ↦ subst (λ l. Moves l t q) (sym f) k | inr p ↦ absurd (let same = p.1 in let un : kind.Bool ≡ kind.Text = cc in cc) ]),
     )
     at t (Elem n c q) = (
       (λ h. inl (subst (λ l. HasLink l t n c q) g h)),
       (λ h. elim h [ inl k ↦ subst (λ l. HasLink l t n c q) (sym g) k | inr p ↦ absurd (let same = p.1 in cc) ]),
     )
 
--- ---- links
-
--- an index where groups hold one link more
-groups_add : (old new : Index) (s n c r : ℕ) → new.bools.items ≡ old.bools.items → new.texts.items ≡ old.texts.items → (Differ old.groups.items → Differ new.groups.items)
-    → ((t m d q : ℕ) → HasLink new.groups.items t m d q ↔ (HasLink old.groups.items t m d q ⊎ ((t ≡ s) × (m ≡ n) × (d ≡ c) × (q ≡ r)))) → AddsEdge old new s (Elem n c r)
-groups_add old new s n c r e f differ links = record { differ = differ; listed = at }
+-- the group at a place has one link more
+pub adds_link : (k : ℕ) (old new : Index) (mid : List Group) (s n c r i : ℕ) (g x : Group) → IsWide k old → new.bools.items ≡ old.bools.items → new.texts.items ≡ old.texts.items → FindsGroup old.groups.items mid n i
+    → slice_get mid i ≡ Some g → new.groups.items ≡ set mid i x → x.label ≡ g.label → AddsLink k g.links.items x.links.items s c r → AddsEdge k old new s (Elem n c r)
+adds_link k old new mid s n c r i g x wide e f finds here is same adds = record {
+  differ = λ d. subst Differ (sym is) (differ (finds.differ d));
+  wide = record { kinds = wide_kinds k _ _ new e f (wide.kinds kind.Bool) (wide.kinds kind.Text); groups = wider };
+  listed = at;
+}
   where
-    at : (t : ℕ) (x : Edge) → Listed new t x ↔ (Listed old t x ⊎ ((t ≡ s) × (x ≡ Elem n c r)))
-    at t (Atom kind.Bool q) = (
-      (λ h. inl (subst (λ l. Has l (record { from = t; to = q })) e h)),
-      (λ h. elim h [ inl k ↦ subst (λ l. Has l (record { from = t; to = q })) (sym e) k | inr p ↦ absurd (let same = p.1 in cc) ]),
-    )
-    at t (Atom kind.Text q) = (
-      (λ h. inl (subst (λ l. Has l (record { from = t; to = q })) f h)),
-      (λ h. elim h [ inl k ↦ subst (λ l. Has l (record { from = t; to = q })) (sym f) k | inr p ↦ absurd (let same = p.1 in cc) ]),
-    )
-    at t (Elem m d q) = (
-      (λ h. elim ((links t m d q).0 h) [ inl k ↦ inl k | inr p ↦ inr (p.0, ap (λ x. Elem x d q) p.1 ∙ ap (λ x. Elem n x q) p.2 ∙ ap (Elem n c) p.3) ]),
-      (λ h. (links t m d q).1 (elim h [ inl k ↦ inl k | inr p ↦ inr (p.0, (let same = p.1 in cc), (let same = p.1 in cc), (let same = p.1 in cc)) ])),
-    )
+    inside : i < length mid
+    inside = slice_get_within mid i g here
 
--- a group of a new label, with the one link
-pub adds_group : (old new : Index) (s n c r : ℕ) (g : Group) → new.bools.items ≡ old.bools.items → new.texts.items ≡ old.texts.items
-    → new.groups.items ≡ old.groups.items ++ g ∷ [] → g.label ≡ n → g.links.items ≡ (record { from = s; content = c; to = r }) ∷ []
-    → ((h : Group) → Has old.groups.items h → h.label ≡ n → ⊥) → AddsEdge old new s (Elem n c r)
-adds_group old new s n c r g e f is label one fresh = groups_add old new s n c r e f (λ d. subst Differ (sym is) (differ d)) links
-  where
-    differ : Differ old.groups.items → Differ (old.groups.items ++ g ∷ [])
-    differ d i j x y p q same = at (get-push old.groups.items g i x p) (get-push old.groups.items g j y q)
-      where
-        at : ((i < length old.groups.items) × (slice_get old.groups.items i ≡ Some x)) ⊎ ((i ≡ length old.groups.items) × (g ≡ x))
-            → ((j < length old.groups.items) × (slice_get old.groups.items j ≡ Some y)) ⊎ ((j ≡ length old.groups.items) × (g ≡ y)) → i ≡ j
-        at (inl a) (inl b) = d i j x y a.1 b.1 same
-        at (inl a) (inr b) = absurd (fresh x (i, a.1) (same ∙ ap (λ (z : Group). z.label) (sym b.1) ∙ label))
-        at (inr a) (inl b) = absurd (fresh y (j, b.1) (sym same ∙ ap (λ (z : Group). z.label) (sym a.1) ∙ label))
-        at (inr a) (inr b) = a.0 ∙ sym b.0
+    at_place : Has (set mid i x) x
+    at_place = (i, get-set_here mid i x inside)
 
-    only : (l : Link) → Has g.links.items l → l ≡ record { from = s; content = c; to = r }
-    only l h = at (subst (λ ls. Has ls l) one h)
-      where
-        at : Has (record { from = s; content = c; to = r } ∷ []) l → l ≡ record { from = s; content = c; to = r }
-        at (zero, k) = (let x : Some (record { from = s; content = c; to = r }) ≡ Some l = k in sym (some_is _ l x))
-        at (suc i, k) = cc
+    label : g.label ≡ n
+    label = ap (λ (z : Group). z.label) (some_is g finds.there.0 (sym here ∙ finds.there.1)) ∙ finds.there.2
 
-    there : Has g.links.items (record { from = s; content = c; to = r })
-    there = subst (λ ls. Has ls (record { from = s; content = c; to = r })) (sym one) (0, refl)
-
-    links : (t m d q : ℕ) → HasLink new.groups.items t m d q ↔ (HasLink old.groups.items t m d q ⊎ ((t ≡ s) × (m ≡ n) × (d ≡ c) × (q ≡ r)))
-    links t m d q = (
-      (λ h. elim (has-push old.groups.items g h.0 (subst (λ l. Has l h.0) is h.1)) [
-        | inl k ↦ inl (h.0, k, h.2, h.3)
-        | inr same ↦
-            let l = only (record { from = t; content = d; to = q }) (subst (λ (z : Group). Has z.links.items (record { from = t; content = d; to = q })) (sym same) h.3) in
-            inr (ap (λ (z : Link). z.from) l, sym h.2 ∙ ap (λ (z : Group). z.label) (sym same) ∙ label, ap (λ (z : Link). z.content) l, ap (λ (z : Link). z.to) l)
-      ]),
-      (λ h. elim h [
-        | inl k ↦ (k.0, subst (λ l. Has l k.0) (sym is) (has-append old.groups.items (g ∷ []) k.0 k.1), k.2, k.3)
-        | inr p ↦ (
-          g,
-          subst (λ l. Has l g) (sym is) (has-last old.groups.items g),
-          label ∙ sym p.1,
-          subst (λ x. Has g.links.items (record { from = x; content = d; to = q })) (sym p.0)
-              (subst (λ x. Has g.links.items (record { from = s; content = x; to = q })) (sym p.2)
-              (subst (λ x. Has g.links.items (record { from = s; content = c; to = x })) (sym p.3) there)),
-        )
-      ]),
-    )
-
--- the group of the label, with one link more
-pub adds_link : (old new : Index) (s n c r i : ℕ) (g h : Group) → new.bools.items ≡ old.bools.items → new.texts.items ≡ old.texts.items
-    → slice_get old.groups.items i ≡ Some g → g.label ≡ n → new.groups.items ≡ set old.groups.items i h → h.label ≡ g.label → h.links.items ≡ g.links.items ++ (record { from = s; content = c; to = r }) ∷ []
-    → AddsEdge old new s (Elem n c r)
-adds_link old new s n c r i g h e f here label is same more = groups_add old new s n c r e f (λ d. subst Differ (sym is) (differ d)) links
-  where
-    inside : i < length old.groups.items
-    inside = slice_get_within old.groups.items i g here
-
-    new_here : slice_get (set old.groups.items i h) i ≡ Some h
-    new_here = get-set_here old.groups.items i h inside
-
-    -- each group of the new list has a group of the old one at its place, of the same label
-    before : (j : ℕ) (x : Group) → slice_get (set old.groups.items i h) j ≡ Some x → (y : Group) × (slice_get old.groups.items j ≡ Some y) × (x.label ≡ y.label)
-    before j x p = elim (same_or_not j i) [
-      | inl at ↦
-          let is_h : h ≡ x = some_is h x (sym new_here ∙ ap (slice_get (set old.groups.items i h)) (sym at) ∙ p) in
-          (g, ap (slice_get old.groups.items) at ∙ here, ap (λ (z : Group). z.label) (sym is_h) ∙ same)
-      | inr ne ↦ (x, sym (get-set_other old.groups.items i j h ne) ∙ p, refl)
+    wider : AreWideGroups k new.groups.items
+    wider y h = elim (has-set mid i x y (subst (λ l. Has l y) is h)) [
+      | inl y_is ↦ subst (λ (z : Group). AreWideLinks k z.links.items) (sym y_is) adds.wide
+      | inr at ↦ finds.wide k wide.groups y (at.0, at.2)
     ]
 
-    differ : Differ old.groups.items → Differ (set old.groups.items i h)
-    differ d j k x y p q eq =
-        let a = before j x p in
-        let b = before k y q in
-        d j k a.0 b.0 a.1 b.1 (sym a.2 ∙ eq ∙ b.2)
+    -- each group of the new list has a group of the old one at its place, of the same label
+    before : (j : ℕ) (y : Group) → slice_get (set mid i x) j ≡ Some y → (z : Group) × (slice_get mid j ≡ Some z) × (y.label ≡ z.label)
+    before j y p = elim (same_or_not j i) [
+      | inl at ↦
+          let y_is : x ≡ y = some_is x y (sym (get-set_here mid i x inside) ∙ ap (slice_get (set mid i x)) (sym at) ∙ p) in
+          (g, ap (slice_get mid) at ∙ here, ap (λ (z : Group). z.label) (sym y_is) ∙ same)
+      | inr ne ↦ (y, sym (get-set_other mid i j x ne) ∙ p, refl)
+    ]
 
-    links : (t m d q : ℕ) → HasLink new.groups.items t m d q ↔ (HasLink old.groups.items t m d q ⊎ ((t ≡ s) × (m ≡ n) × (d ≡ c) × (q ≡ r)))
-    links t m d q = ((λ k. forth (subst (λ l. HasLink l t m d q) is k)), (λ k. subst (λ l. HasLink l t m d q) (sym is) (back k)))
-      where
-        forth : HasLink (set old.groups.items i h) t m d q → HasLink old.groups.items t m d q ⊎ ((t ≡ s) × (m ≡ n) × (d ≡ c) × (q ≡ r))
-        forth (x, (j, p), lab, k) = elim (same_or_not j i) [
-          | inl at ↦
-              let is_h : h ≡ x = some_is h x (sym new_here ∙ ap (slice_get (set old.groups.items i h)) (sym at) ∙ p) in
-              elim (has-push g.links.items _ _ (subst (λ l. Has l (record { from = t; content = d; to = q })) more (subst (λ (z : Group). Has z.links.items (record { from = t; content = d; to = q })) (sym is_h) k))) [
-                | inl was ↦ inl (g, (i, here), sym same ∙ ap (λ (z : Group). z.label) is_h ∙ lab, was)
-                | inr l ↦ inr (ap (λ (z : Link). z.from) (sym l), sym lab ∙ ap (λ (z : Group). z.label) (sym is_h) ∙ same ∙ label, ap (λ (z : Link). z.content) (sym l), ap (λ (z : Link). z.to) (sym l))
-              ]
-          | inr ne ↦ inl (x, (j, sym (get-set_other old.groups.items i j h ne) ∙ p), lab, k)
-        ]
+    differ : Differ mid → Differ (set mid i x)
+    differ d j l y z p q eq =
+        let a = before j y p in
+        let b = before l z q in
+        d j l a.0 b.0 a.1 b.1 (sym a.2 ∙ eq ∙ b.2)
 
-        new_link : Has h.links.items (record { from = s; content = c; to = r })
-        new_link = subst (λ l. Has l (record { from = s; content = c; to = r })) (sym more) (has-last g.links.items _)
+    forth : (t m d q : ℕ) → HasLink (set mid i x) t m d q → HasLink old.groups.items t m d q ⊎ ((t ≡ s) × (m ≡ n) × (d ≡ c) × (q ≡ r))
+    forth t m d q (y, h, lab, l) = elim (has-set mid i x y h) [
+      | inr k ↦ inl ((finds.same t m d q).0 (y, (k.0, k.2), lab, l))
+      | inl y_is ↦ elim ((adds.links t d q).0 (subst (λ (z : Group). Links z.links.items t d q) y_is l)) [
+        | inl was ↦ inl ((finds.same t m d q).0 (g, (i, here), sym same ∙ ap (λ (z : Group). z.label) (sym y_is) ∙ lab, was))
+        | inr p ↦ inr (p.0, sym lab ∙ ap (λ (z : Group). z.label) y_is ∙ same ∙ label, p.1, p.2)
+      ]
+    ]
 
-        back : HasLink old.groups.items t m d q ⊎ ((t ≡ s) × (m ≡ n) × (d ≡ c) × (q ≡ r)) → HasLink (set old.groups.items i h) t m d q
-        back (inr p) = (
-          h,
-          (i, new_here),
-          same ∙ label ∙ sym p.1,
-          subst (λ x. Has h.links.items (record { from = x; content = d; to = q })) (sym p.0)
-              (subst (λ x. Has h.links.items (record { from = s; content = x; to = q })) (sym p.2)
-              (subst (λ x. Has h.links.items (record { from = s; content = c; to = x })) (sym p.3) new_link)),
-        )
-        back (inl (x, (j, p), lab, k)) = elim (same_or_not j i) [
-          | inl at ↦
-              let is_g : g ≡ x = some_is g x (sym here ∙ ap (slice_get old.groups.items) (sym at) ∙ p) in (
-                h,
-                (i, new_here),
-                same ∙ ap (λ (z : Group). z.label) is_g ∙ lab,
-                subst (λ l. Has l (record { from = t; content = d; to = q })) (sym more)
-                    (has-append g.links.items _ _ (subst (λ (z : Group). Has z.links.items (record { from = t; content = d; to = q })) (sym is_g) k)),
-              )
-          | inr ne ↦ (x, (j, get-set_other old.groups.items i j h ne ∙ p), lab, k)
-        ]
+    kept : (t m d q : ℕ) → HasLink mid t m d q → HasLink (set mid i x) t m d q
+    kept t m d q (y, (j, p), lab, l) = elim (same_or_not j i) [
+      | inr ne ↦ (y, set-has mid i j x y ne p, lab, l)
+      | inl j_is ↦
+          let y_is : y ≡ g = some_is y g (sym p ∙ ap (slice_get mid) j_is ∙ here) in
+          (x, at_place, same ∙ ap (λ (z : Group). z.label) (sym y_is) ∙ lab, (adds.links t d q).1 (inl (subst (λ (z : Group). Links z.links.items t d q) y_is l)))
+    ]
+
+    back : (t m d q : ℕ) → HasLink old.groups.items t m d q ⊎ ((t ≡ s) × (m ≡ n) × (d ≡ c) × (q ≡ r)) → HasLink (set mid i x) t m d q
+    back t m d q (inl was) = kept t m d q ((finds.same t m d q).1 was)
+    back t m d q (inr p) = (x, at_place, same ∙ label ∙ sym p.1, (adds.links t d q).1 (inr (p.0, p.2, p.3)))
+
+    at : (t : ℕ) (y : Edge) → Listed new t y ↔ (Listed old t y ⊎ ((t ≡ s) × (y ≡ Elem n c r)))
+    at t (Atom kind.Bool q) = (
+      (λ h. inl (subst (λ l. Moves l t q) e h)),
+      (λ h. elim h [ inl k ↦ subst (λ l. Moves l t q) (sym e) k | inr p ↦ absurd (let same = p.1 in cc) ]),
+    )
+    at t (Atom kind.Text q) = (
+      (λ h. inl (subst (λ l. Moves l t q) f h)),
+      (λ h. elim h [ inl k ↦ subst (λ l. Moves l t q) (sym f) k | inr p ↦ absurd (let same = p.1 in cc) ]),
+    )
+    at t (Elem m d q) = (
+      (λ h. elim (forth t m d q (subst (λ l. HasLink l t m d q) is h)) [
+        | inl k ↦ inl k
+        | inr p ↦ inr (p.0, ap (λ z. Elem z d q) p.1 ∙ ap (λ z. Elem n z q) p.2 ∙ ap (Elem n c) p.3)
+      ]),
+      (λ h. subst (λ l. HasLink l t m d q) (sym is) (back t m d q (elim h [ inl k ↦ inl k | inr p ↦ inr (p.0, (let same = p.1 in cc), (let same = p.1 in cc), (let same = p.1 in cc)) ]))),
+    )
 
 -- ---- edges, one after another
 
-pub no_edges : (index : Index) (s : ℕ) (es : List Edge) → AddsEdges index index s es 0
-no_edges index s es = record { differ = λ d. d; listed = λ t f. ((λ h. inl h), (λ h. elim h [ inl k ↦ k | inr p ↦ absurd (let l = p.2 in omega (arith, l)) ])) }
+pub no_edges : (n : ℕ) (index : Index) (s : ℕ) (es : List Edge) → IsWide n index → AddsEdges n index index s es 0
+no_edges n index s es wide = record { differ = λ d. d; wide = wide; listed = λ t f. ((λ h. inl h), (λ h. elim h [ inl k ↦ k | inr p ↦ absurd (let l = p.2 in omega (arith, l)) ])) }
 
-pub next_edge : (old mid new : Index) (s : ℕ) (es : List Edge) (k : ℕ) (e : Edge) → AddsEdges old mid s es k → slice_get es k ≡ Some e → AddsEdge mid new s e → AddsEdges old new s es (k + 1)
-next_edge old mid new s es k e before is one = record {
+pub next_edge : (n : ℕ) (old mid new : Index) (s : ℕ) (es : List Edge) (k : ℕ) (e : Edge) → AddsEdges n old mid s es k → slice_get es k ≡ Some e → AddsEdge n mid new s e → AddsEdges n old new s es (k + 1)
+next_edge n old mid new s es k e before is one = record {
   differ = λ d. one.differ (before.differ d);
+  wide = one.wide;
   listed = λ t f. ((λ h. forth t f ((one.listed t f).0 h)), (λ h. (one.listed t f).1 (back t f h)));
 }
   where
@@ -225,9 +316,10 @@ next_edge old mid new s es k e before is one = record {
       | inr same ↦ inr (p, some_is f e (sym at ∙ ap (slice_get es) same ∙ is))
     ]
 
-pub next_state : (a : List State) (old new : Index) (s : ℕ) (st : State) → IndexesBelow a s old → slice_get a s ≡ Some st → AddsEdges old new s st.edges (length st.edges) → IndexesBelow a (s + 1) new
+pub next_state : (a : List State) (old new : Index) (s : ℕ) (st : State) → IndexesBelow a s old → slice_get a s ≡ Some st → AddsEdges (length a) old new s st.edges (length st.edges) → IndexesBelow a (s + 1) new
 next_state a old new s st before is one = record {
   differ = one.differ before.differ;
+  wide = one.wide;
   listed = λ t f. ((λ h. forth t f ((one.listed t f).0 h)), (λ h. (one.listed t f).1 (back t f h)));
 }
   where
@@ -247,65 +339,86 @@ next_state a old new s st before is one = record {
 pub no_states : (a : List State) (index : Index) → index.bools.items ≡ [] → index.texts.items ≡ [] → index.groups.items ≡ [] → IndexesBelow a 0 index
 no_states a index e f g = record {
   differ = λ i j x y p. absurd (let h : slice_get [] i ≡ Some x = ap (λ l. slice_get l i) (sym g) ∙ p in cc);
+  wide = record { kinds = wide_kinds (length a) [] [] index e f (λ m h. absurd (has-nil m h)) (λ m h. absurd (has-nil m h)); groups = λ x h. absurd (has-nil x (subst (λ l. Has l x) g h)) };
   listed = at;
 }
   where
     at : (s : ℕ) (x : Edge) → Listed index s x ↔ ((s < 0) × HasEdge a s x)
-    at s (Atom kind.Bool r) = ((λ h. absurd (has-nil _ (subst (λ l. Has l (record { from = s; to = r })) e h))), (λ h. absurd (let l = h.0 in omega (arith, l))))
-    at s (Atom kind.Text r) = ((λ h. absurd (has-nil _ (subst (λ l. Has l (record { from = s; to = r })) f h))), (λ h. absurd (let l = h.0 in omega (arith, l))))
+    at s (Atom kind.Bool r) = ((λ h. absurd (has-nil h.0 (subst (λ l. Has l h.0) e h.1))), (λ h. absurd (let l = h.0 in omega (arith, l))))
+    at s (Atom kind.Text r) = ((λ h. absurd (has-nil h.0 (subst (λ l. Has l h.0) f h.1))), (λ h. absurd (let l = h.0 in omega (arith, l))))
     at s (Elem n c r) = ((λ h. absurd (has-nil h.0 (subst (λ l. Has l h.0) g h.1))), (λ h. absurd (let l = h.0 in omega (arith, l))))
 
 pub all_states : (a : List State) (index : Index) (n : ℕ) → length a ≤ n → IndexesBelow a n index → Indexes a index
 all_states a index n le below = record {
   differ = below.differ;
+  wide = below.wide;
   listed = λ s e. ((λ h. ((below.listed s e).0 h).1), (λ h. (below.listed s e).1 ((let l = slice_get_within a s h.0 h.1 in omega (arith, l)), h)));
 }
 
 -- ---- moves along links
 
+moves_split : (ms ns : List Move) (s r : ℕ) → Moves (ms ++ ns) s r → Moves ms s r ⊎ Moves ns s r
+moves_split ms ns s r (m, h, e, on) = elim (has-split ms ns m h) [ inl k ↦ inl (m, k, e, on) | inr k ↦ inr (m, k, e, on) ]
+
+moves_left : (ms ns : List Move) (s r : ℕ) → Moves ms s r → Moves (ms ++ ns) s r
+moves_left ms ns s r (m, h, e, on) = (m, has-append ms ns m h, e, on)
+
+moves_right : (ms ns : List Move) (s r : ℕ) → Moves ns s r → Moves (ms ++ ns) s r
+moves_right ms ns s r (m, h, e, on) = (m, has-right ms ns m h, e, on)
+
 -- the moves along the first k links
-abbrev pub FollowsBelow : List Link → List Bool → List Move → ℕ → Type 0
-FollowsBelow links p moves k = (s r : ℕ) → Has moves (record { from = s; to = r }) ↔ ((c : ℕ) × (i : ℕ) × (i < k) × (slice_get links i ≡ Some (record { from = s; content = c; to = r })) × (has p c ≡ true))
+pub record FollowsBelow (links : List Link) (p : List Bool) (moves : List Move) (k : ℕ) : Type 0 where
+  pub follows : (s r : ℕ) → Moves moves s r ↔ ((i : ℕ) × (l : Link) × (i < k) × (slice_get links i ≡ Some l) × (has p l.content ≡ true) × Moves l.moves.items s r)
+  pub wide : (n : ℕ) → AreWideLinks n links → AreWide n moves
 
 pub no_links : (links : List Link) (p : List Bool) (moves : List Move) → moves ≡ [] → FollowsBelow links p moves 0
-no_links links p moves e s r = ((λ h. absurd (has-nil _ (subst (λ l. Has l (record { from = s; to = r })) e h))), (λ h. absurd (let l = h.2 in omega (arith, l))))
+no_links links p moves e = record {
+  follows = λ s r. ((λ h. absurd (has-nil h.0 (subst (λ l. Has l h.0) e h.1))), (λ h. absurd (let l = h.2 in omega (arith, l))));
+  wide = λ n w m h. absurd (has-nil m (subst (λ l. Has l m) e h));
+}
 
 pub skip_link : (links : List Link) (p : List Bool) (moves : List Move) (k : ℕ) (l : Link) → FollowsBelow links p moves k → slice_get links k ≡ Some l → has p l.content ≡ false → FollowsBelow links p moves (k + 1)
-skip_link links p moves k l before is off s r = (
-  (λ h. let q = (before s r).0 h in (q.0, q.1, (let lt = q.2 in omega (arith, lt)), q.3, q.4)),
-  (λ h. elim (below_or_at h.1 k h.2) [
-    | inl lt ↦ (before s r).1 (h.0, h.1, lt, h.3, h.4)
-    | inr same ↦
-        let is_l : record { from = s; content = h.0; to = r } ≡ l = some_is _ l (sym h.3 ∙ ap (slice_get links) same ∙ is) in
-        absurd (let x : true ≡ false = sym h.4 ∙ ap (λ (z : Link). has p z.content) is_l ∙ off in cc)
-  ]),
-)
+skip_link links p moves k l before is off = record {
+  follows = λ s r. (
+    (λ h. let q = (before.follows s r).0 h in (q.0, q.1, (let lt = q.2 in omega (arith, lt)), q.3, q.4, q.5)),
+    (λ h. elim (below_or_at h.0 k h.2) [
+      | inl lt ↦ (before.follows s r).1 (h.0, h.1, lt, h.3, h.4, h.5)
+      | inr same ↦
+          let l_is : h.1 ≡ l = some_is h.1 l (sym h.3 ∙ ap (slice_get links) same ∙ is) in
+          absurd (let x : true ≡ false = sym h.4 ∙ ap (λ (z : Link). has p z.content) l_is ∙ off in cc)
+    ]),
+  );
+  wide = before.wide;
+}
 
-pub follow_link : (links : List Link) (p : List Bool) (moves more : List Move) (k : ℕ) (l : Link) → FollowsBelow links p moves k → slice_get links k ≡ Some l → has p l.content ≡ true
-    → more ≡ moves ++ (record { from = l.from; to = l.to }) ∷ [] → FollowsBelow links p more (k + 1)
-follow_link links p moves more k l before is on e s r = (
-  (λ h. elim (move_push moves l.from s l.to r (subst (λ ms. Has ms (record { from = s; to = r })) e h)) [
-    | inl g ↦ (let q = (before s r).0 g in (q.0, q.1, (let lt = q.2 in omega (arith, lt)), q.3, q.4))
-    | inr g ↦ (l.content, k, omega arith, is ∙ ap (λ x. Some (record { from = x; content = l.content; to = l.to })) (sym g.0) ∙ ap (λ x. Some (record { from = s; content = l.content; to = x })) (sym g.1), on)
-  ]),
-  (λ h. subst (λ ms. Has ms (record { from = s; to = r })) (sym e) (push_move moves l.from s l.to r (elim (below_or_at h.1 k h.2) [
-    | inl lt ↦ inl ((before s r).1 (h.0, h.1, lt, h.3, h.4))
-    | inr same ↦
-        let is_l : record { from = s; content = h.0; to = r } ≡ l = some_is _ l (sym h.3 ∙ ap (slice_get links) same ∙ is) in
-        inr (ap (λ (z : Link). z.from) is_l, ap (λ (z : Link). z.to) is_l)
-  ]))),
-)
+pub follow_link : (links : List Link) (p : List Bool) (moves more : List Move) (k : ℕ) (l : Link) → FollowsBelow links p moves k → slice_get links k ≡ Some l → has p l.content ≡ true → more ≡ moves ++ l.moves.items → FollowsBelow links p more (k + 1)
+follow_link links p moves more k l before is on e = record {
+  follows = λ s r. ((λ h. forth s r (subst (λ ms. Moves ms s r) e h)), (λ h. subst (λ ms. Moves ms s r) (sym e) (back s r h)));
+  wide = λ n w m h. elim (has-split moves l.moves.items m (subst (λ ms. Has ms m) e h)) [ inl was ↦ before.wide n w m was | inr new ↦ w l (k, is) m new ];
+}
+  where
+    forth : (s r : ℕ) → Moves (moves ++ l.moves.items) s r → (i : ℕ) × (x : Link) × (i < k + 1) × (slice_get links i ≡ Some x) × (has p x.content ≡ true) × Moves x.moves.items s r
+    forth s r h = elim (moves_split moves l.moves.items s r h) [
+      | inl was ↦ (let q = (before.follows s r).0 was in (q.0, q.1, (let lt = q.2 in omega (arith, lt)), q.3, q.4, q.5))
+      | inr new ↦ (k, l, omega arith, is, on, new)
+    ]
+
+    back : (s r : ℕ) → (i : ℕ) × (x : Link) × (i < k + 1) × (slice_get links i ≡ Some x) × (has p x.content ≡ true) × Moves x.moves.items s r → Moves (moves ++ l.moves.items) s r
+    back s r (i, x, lt, at, there, m) = elim (below_or_at i k lt) [
+      | inl l_t ↦ moves_left moves l.moves.items s r ((before.follows s r).1 (i, x, l_t, at, there, m))
+      | inr same ↦ moves_right moves l.moves.items s r (subst (λ (z : Link). Moves z.moves.items s r) (some_is x l (sym at ∙ ap (slice_get links) same ∙ is)) m)
+    ]
 
 pub all_links : (links : List Link) (p : List Bool) (moves : List Move) (k : ℕ) → length links ≤ k → FollowsBelow links p moves k → Follows links p moves
 all_links links p moves k le below s r = (
-  (λ h. let q = (below s r).0 h in (q.0, (q.1, q.3), q.4)),
-  (λ h. (below s r).1 (h.0, h.1.0, (let l = slice_get_within links h.1.0 _ h.1.1 in omega (arith, l)), h.1.1, h.2)),
+  (λ h. let q = (below.follows s r).0 h in (q.1.content, (q.1, (q.0, q.3), refl, q.5), q.4)),
+  (λ h. let l = h.1 in (below.follows s r).1 (l.1.0, l.0, (let lt = slice_get_within links l.1.0 l.0 l.1.1 in omega (arith, lt, le)), l.1.1, subst (λ c. has p c ≡ true) (sym l.2) h.2, l.3)),
 )
 
 -- ---- groups
 
 pub indexed_groups : (a : List State) (index : Index) → Indexes a index → IndexesGroups a index.groups.items
-indexed_groups a index i = record { differ = i.differ; links = λ s n c r. i.listed s (Elem n c r) }
+indexed_groups a index i = record { differ = i.differ; wide = i.wide.groups; links = λ s n c r. i.listed s (Elem n c r) }
 
 -- the moves along the links of a group are those by the links of its label
 pub group_moves : (groups : List Group) (g : Group) (k : ℕ) (p : List Bool) (moves : List Move) → Differ groups → slice_get groups k ≡ Some g → Follows g.links.items p moves → ByLinks groups g.label p moves
@@ -314,14 +427,14 @@ group_moves groups g k p moves differ is follows s r = (
   (λ h. (follows s r).1 (h.0, same h.1, h.2)),
 )
   where
-    same : {c : ℕ} → HasLink groups s g.label c r → Has g.links.items (record { from = s; content = c; to = r })
+    same : {c : ℕ} → HasLink groups s g.label c r → Links g.links.items s c r
     same {c} (x, (j, at), lab, l) =
         let at_k : slice_get groups k ≡ Some x = ap (slice_get groups) (sym (differ j k x g at is lab)) ∙ at in
-        subst (λ (z : Group). Has z.links.items (record { from = s; content = c; to = r })) (some_is x g (sym at_k ∙ is)) l
+        subst (λ (z : Group). Links z.links.items s c r) (some_is x g (sym at_k ∙ is)) l
 
 -- a label with no group has no links
 pub no_group : (groups : List Group) (n : ℕ) (p : List Bool) → ((g : Group) → Has groups g → g.label ≡ n → ⊥) → ByLinks groups n p []
-no_group groups n p none s r = ((λ h. absurd (has-nil _ h)), (λ h. let l = h.1 in absurd (none l.0 l.1 l.2)))
+no_group groups n p none s r = ((λ h. absurd (has-nil h.0 h.1)), (λ h. let l = h.1 in absurd (none l.0 l.1 l.2)))
 
 pub next_group : (groups : List Group) (k n : ℕ) (x : Group) → ((j : ℕ) (g : Group) → j < k → slice_get groups j ≡ Some g → g.label ≡ n → ⊥) → slice_get groups k ≡ Some x → (x.label ≡ n → ⊥)
     → (j : ℕ) (g : Group) → j < k + 1 → slice_get groups j ≡ Some g → g.label ≡ n → ⊥

@@ -64,11 +64,11 @@ forest_at-recipe ks i k e h =
 pub set_at-append : (ks ls : List Kept) (i : ℕ) → i < length ks → set_at (ks ++ ls) i ≡ set_at ks i
 set_at-append ks ls i h = ap set_of (get-append ks ls i h)
 
-set_at-last : (ks : List Kept) (k : Kept) → set_at (ks ++ k ∷ []) (length ks) ≡ k.set.items
+set_at-last : (ks : List Kept) (k : Kept) → set_at (ks ++ k ∷ []) (length ks) ≡ k.set
 set_at-last ks k = ap set_of (get-end ks k [])
 
-pub push : (a : List State) (ks : List Kept) (k : Kept) → AreKept a ks → NamesEarlier (length ks) k.from → IsProfile a k.set.items (made (forests_after [] ks) k.from)
-    → length k.set.items ≡ length a → IsFresh ks k.set.items → AreKept a (ks ++ k ∷ [])
+pub push : (a : List State) (ks : List Kept) (k : Kept) → AreKept a ks → NamesEarlier (length ks) k.from → IsProfile a k.set (made (forests_after [] ks) k.from)
+    → length k.set ≡ length a → IsFresh ks k.set → AreKept a (ks ++ k ∷ [])
 push a ks k are names is long fresh = record {
   earlier = λ i l e. early i l (get-push ks k i l e);
   profiles = λ i h. right i (below_or_at i (length ks) (omega (arith, h, length-append ks (k ∷ []))));
@@ -87,7 +87,7 @@ push a ks k are names is long fresh = record {
     right i (inr e) =
         subst (λ n. IsProfile a (set_at (ks ++ k ∷ []) n) (forest_at (ks ++ k ∷ []) n)) (sym e)
         (subst (λ p. IsProfile a p (forest_at (ks ++ k ∷ []) (length ks))) (sym (set_at-last ks k))
-        (subst (IsProfile a k.set.items) (sym (forest_at-last ks k)) is))
+        (subst (IsProfile a k.set) (sym (forest_at-last ks k)) is))
 
     wide : (i : ℕ) → (i < length ks) ⊎ (i ≡ length ks) → length (set_at (ks ++ k ∷ []) i) ≡ length a
     wide i (inl h) = ap length (set_at-append ks (k ∷ []) i h) ∙ are.long i h

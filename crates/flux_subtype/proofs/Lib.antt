@@ -1,4 +1,5 @@
 pub mod Places
+pub mod SetLaws
 pub mod GoingLaws
 pub mod KeptLaws
 pub mod CoverLaws

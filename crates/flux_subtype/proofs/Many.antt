@@ -87,7 +87,7 @@ length-le_pow (suc n) xs l h =
 -- ---- the profiles that are kept
 
 abbrev sets : List Kept → List (List Bool)
-sets ks = map (λ k. k.set.items) ks
+sets ks = map (λ k. k.set) ks
 
 not_in : (x : List Bool) (ks : List Kept) → ((j : ℕ) → j < length ks → x ≡ set_at ks j → ⊥) → NotIn x (sets ks)
 not_in x [] f = tt
@@ -95,7 +95,7 @@ not_in x (k ∷ ks) f = (f 0 (omega arith), not_in x ks (λ j h. f (suc j) (omeg
 
 all_apart : (ks : List Kept) → ((i j : ℕ) → i < j → j < length ks → set_at ks i ≡ set_at ks j → ⊥) → Apart (sets ks)
 all_apart [] f = tt
-all_apart (k ∷ ks) f = (not_in k.set.items ks (λ j h. f 0 (suc j) (omega arith) (omega arith)), all_apart ks (λ i j h l. f (suc i) (suc j) (omega arith) (omega arith)))
+all_apart (k ∷ ks) f = (not_in k.set ks (λ j h. f 0 (suc j) (omega arith) (omega arith)), all_apart ks (λ i j h l. f (suc i) (suc j) (omega arith) (omega arith)))
 
 all_long : (n : ℕ) (ks : List Kept) → ((i : ℕ) → i < length ks → length (set_at ks i) ≡ n) → Long n (sets ks)
 all_long n [] f = tt
@@ -104,4 +104,4 @@ all_long n (k ∷ ks) f = (f 0 (omega arith), all_long n ks (λ i h. f (suc i) (
 pub few_kept : (a : List State) (ks : List Kept) → AreKept a ks → length ks ≤ 2 ^ length a
 few_kept a ks are =
     let l = length-le_pow (length a) (sets ks) (all_long (length a) ks are.long) (all_apart ks are.apart) in
-    omega (arith, length-map ks (λ k. k.set.items))
+    omega (arith, length-map ks (λ k. k.set))

@@ -60,6 +60,26 @@ get-push (z ∷ xs) x (suc i) y e = by (get-push xs x i y e)
 pub has-append : {X : Type 0} (xs ys : List X) (x : X) → Has xs x → Has (xs ++ ys) x
 has-append xs ys x (k, e) = (k, get-append xs ys k (slice_get_within xs k x e) ∙ e)
 
+pub has-right : {X : Type 0} (xs ys : List X) (x : X) → Has ys x → Has (xs ++ ys) x
+has-right [] ys x h = h
+has-right (y ∷ xs) ys x h = let p = has-right xs ys x h in (suc p.0, p.1)
+
+pub has-split : {X : Type 0} (xs ys : List X) (x : X) → Has (xs ++ ys) x → Has xs x ⊎ Has ys x
+has-split [] ys x h = inr h
+has-split (y ∷ xs) ys x (zero, e) = inl (zero, e)
+has-split (y ∷ xs) ys x (suc k, e) = elim (has-split xs ys x (k, e)) [ inl p ↦ inl (suc p.0, p.1) | inr p ↦ inr p ]
+
+-- an item of a list where one was replaced is the new one, or one of another place
+pub has-set : {X : Type 0} (xs : List X) (i : ℕ) (x y : X) → Has (set xs i x) y → (y ≡ x) ⊎ ((j : ℕ) × (j ≡ i → ⊥) × (slice_get xs j ≡ Some y))
+has-set [] i x y (k, e) = cc
+has-set (z ∷ xs) zero x y (zero, e) = inl (some_is y x (sym e))
+has-set (z ∷ xs) zero x y (suc k, e) = inr (suc k, (λ f. omega (arith, f)), e)
+has-set (z ∷ xs) (suc i) x y (zero, e) = inr (zero, (λ f. omega (arith, f)), e)
+has-set (z ∷ xs) (suc i) x y (suc k, e) = elim (has-set xs i x y (k, e)) [ inl f ↦ inl f | inr p ↦ inr (suc p.0, (λ f. p.1 (omega (arith, f))), p.2) ]
+
+pub set-has : {X : Type 0} (xs : List X) (i j : ℕ) (x y : X) → (j ≡ i → ⊥) → slice_get xs j ≡ Some y → Has (set xs i x) y
+set-has xs i j x y ne at = (j, get-set_other xs i j x ne ∙ at)
+
 pub has-last : {X : Type 0} (xs : List X) (x : X) → Has (xs ++ x ∷ []) x
 has-last xs x = (length xs, get-end xs x [])
 

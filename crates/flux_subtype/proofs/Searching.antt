@@ -12,7 +12,7 @@ use Rattle.flux_subtype.specs.declared.kept.Kept.{Kept}
 use Rattle.flux_subtype.specs.declared.trees.Head.TheVariants.{Atom}
 use Rattle.flux_subtype.specs.declared.trees.Tree.{Tree}
 use Rattle.flux_subtype.specs.Going.{Has, IsProfile}
-use Rattle.flux_subtype.specs.Index.{Indexes, ByAtom}
+use Rattle.flux_subtype.specs.Index.{AreWide, Indexes, ByAtom}
 use Rattle.flux_subtype.specs.Kept.{AreKept, Grows, Keeps}
 use Rattle.flux_subtype.specs.Search.{MovesBy, AreTrees, AddsTree, IsDone, IsAgainst}
 use Rattle.flux_subtype.proofs.Places.{has-nil}
@@ -30,13 +30,13 @@ none_kept a = record {
 }
 
 pub begun : (a : List State) (index : Index) (k0 ks : List Kept) (t0 t1 t2 : List Tree) (bools texts : List Move) (p : List Bool) → Indexes a index → bools ≡ index.bools.items → texts ≡ index.texts.items
-    → k0 ≡ [] → t0 ≡ [] → AddsTree t0 t1 (Atom kind.Bool) bools → AddsTree t1 t2 (Atom kind.Text) texts → p ≡ profile_nil a → Keeps k0 p Nothing ks → IsDone a ks t2 0
-begun a index k0 ks t0 t1 t2 bools texts p is eb et ek e0 one two ep keeps =
-    let more = keeps_more a [] ks p Nothing (none_kept a) tt (subst (λ q. IsProfile a q nil) (sym ep) (profile-nil a)) (ap length ep ∙ length-map a _) (subst (λ k. Keeps k p Nothing ks) ek keeps) in
+    → k0 ≡ [] → t0 ≡ [] → AddsTree t0 t1 (Atom kind.Bool) bools → AddsTree t1 t2 (Atom kind.Text) texts → IsProfile a p nil → length p ≡ length a → Keeps k0 p Nothing ks → IsDone a ks t2 0
+begun a index k0 ks t0 t1 t2 bools texts p is eb et ek e0 one two nothing long keeps =
+    let more = keeps_more a [] ks p Nothing (none_kept a) tt nothing long (subst (λ k. Keeps k p Nothing ks) ek keeps) in
     record {
       kept = more.kept;
       trees = trees;
-      first = (more.there.0, more.there.1, subst (λ q. IsProfile a q nil) (sym ep ∙ sym more.there.2) (profile-nil a));
+      first = (more.there.0, more.there.1, subst (λ q. IsProfile a q nil) (sym more.there.2) nothing);
       kinds = elim [
         | kind.Bool ↦ (bools, by_bool, stands-grows t1 t2 bools two.grows one.stands)
         | kind.Text ↦ (texts, by_text, two.stands)
@@ -53,9 +53,9 @@ begun a index k0 ks t0 t1 t2 bools texts p is eb et ek e0 one two ep keeps =
 
     trees : AreTrees a ks t2
     trees t h = elim (two.new t h) [
-      | inr e ↦ subst (λ head. MovesBy a ks head t.moves.items) (sym e.0) (subst (ByAtom a kind.Text) (sym e.1) by_text)
+      | inr e ↦ (subst (AreWide (length a)) (sym e.1) (subst (AreWide (length a)) (sym et) (is.wide.kinds kind.Text)), subst (λ head. MovesBy a ks head t.moves.items) (sym e.0) (subst (ByAtom a kind.Text) (sym e.1) by_text))
       | inl old ↦ elim (one.new t old) [
-        | inr e ↦ subst (λ head. MovesBy a ks head t.moves.items) (sym e.0) (subst (ByAtom a kind.Bool) (sym e.1) by_bool)
+        | inr e ↦ (subst (AreWide (length a)) (sym e.1) (subst (AreWide (length a)) (sym eb) (is.wide.kinds kind.Bool)), subst (λ head. MovesBy a ks head t.moves.items) (sym e.0) (subst (ByAtom a kind.Bool) (sym e.1) by_bool))
         | inl none ↦ absurd (has-nil t (subst (λ l. Has l t) e0 none))
       ]
     ]

@@ -1,13 +1,14 @@
 -- What a turn of the search leaves.
-use Rattle.std.proofs.Common.{◌≡◌, ◌⊎◌, ℕ, zero, suc, ◌+◌, ◌<◌, ◌≤◌, List, [], ◌∷◌, ◌++◌, length, take, Bool, Some, slice_get, refl, sym, ap, subst, ◌∙◌, inl, inr, arith, get_or}
+use Rattle.std.proofs.Common.{◌≡◌, ◌⊎◌, ◌↔◌, ℕ, zero, suc, ◌+◌, ◌<◌, ◌≤◌, List, [], ◌∷◌, ◌++◌, length, Bool, true, false, Some, slice_get, refl, sym, ap, subst, ◌∙◌, inl, inr, arith, get_or}
 use Rattle.std.specs.Option.{option_map}
+use Rattle.std.proofs.lemmas.List.{length-map}
 use Rattle.std.proofs.lemmas.Option.{slice_get_within}
 use Rattle.flux_atom.specs.declared.atom.AtomKind.{AtomKind}
 use Rattle.flux_atom.specs.declared.atom.AtomKind.TheVariants as kind
 use Rattle.flux_atom.specs.Atom.{kind_of}
 use Rattle.flux_trees.specs.Hedge.{nil, elem, leaf}
 use Rattle.flux_auto.specs.declared.edge.Edge.{Edge}
-use Rattle.flux_auto.specs.Takes.{State, profile_nil}
+use Rattle.flux_auto.specs.Takes.{State, has, takes, profile_nil}
 use Rattle.flux_subtype.specs.declared.index.Move.{Move}
 use Rattle.flux_subtype.specs.declared.index.Group.{Group}
 use Rattle.flux_subtype.specs.declared.kept.Kept.{Kept}
@@ -15,7 +16,7 @@ use Rattle.flux_subtype.specs.declared.trees.Head.{Head}
 use Rattle.flux_subtype.specs.declared.trees.Head.TheVariants.{Atom, Elem}
 use Rattle.flux_subtype.specs.declared.trees.Tree.{Tree}
 use Rattle.flux_subtype.specs.Going.{Has, IsProfile}
-use Rattle.flux_subtype.specs.Index.{ByAtom, ByElement, ByLinks, IndexesGroups}
+use Rattle.flux_subtype.specs.Index.{Moves, AreWide, AreWideGroups, ByAtom, ByElement, ByLinks, IndexesGroups}
 use Rattle.flux_subtype.specs.Kept.{sample, set_of, made, forests_after, forest_at, set_at, NamesEarlier, AreKept, Grows, Keeps}
 use Rattle.flux_subtype.specs.Search.{Fires, IsSilent, MovesBy, AreTrees, Stands, TreesGrow, AddsTree, IsElementOf, AddsElements, LabelsDone, Answered, AllAnswered, AnsweredBelow, recipe_of, Puts, Fills, FillsAll, IsDone, Turned}
 use Rattle.flux_subtype.proofs.Places.{read_is, has-last, has-push, has-nil, some_is, below_or_at, same_or_not, grows-refl, grows-trans, grows-length, grows-get, grows-has}
@@ -25,19 +26,56 @@ use Rattle.flux_subtype.proofs.KeptLaws.{grows-set_at, keeps_more}
 
 -- ---- the empty forest
 
-ends_next : (a : List State) (s : ℕ) (b : Bool) → option_map (λ (st : State). st.ends) (slice_get a s) ≡ Some b → profile_nil (take (suc s) a) ≡ profile_nil (take s a) ++ b ∷ []
-ends_next [] s b e = cc
-ends_next (st ∷ a) zero b e = ap (λ x. x ∷ []) (some_is st.ends b e)
-ends_next (st ∷ a) (suc s) b e = ap (λ l. st.ends ∷ l) (ends_next a s b e)
+-- the states below k that take the empty forest
+pub record EndsBelow (a : List State) (p : List Bool) (k : ℕ) : Type 0 where
+  pub long : length p ≡ length a
+  pub ends : (s : ℕ) → (has p s ≡ true) ↔ ((s < k) × (takes a s nil ≡ true))
 
-pub nil_next : (a : List State) (s : ℕ) (b : Bool) (p q : List Bool) → p ≡ profile_nil (take s a) → option_map (λ (st : State). st.ends) (slice_get a s) ≡ Some b → q ≡ p ++ b ∷ [] → q ≡ profile_nil (take (s + 1) a)
-nil_next a s b p q is e f = f ∙ ap (λ l. l ++ b ∷ []) is ∙ sym (ends_next a s b e) ∙ ap (λ n. profile_nil (take n a)) (let h : suc s ≡ s + 1 = omega arith in h)
+pub ends_none : (a : List State) (p : List Bool) → length p ≡ length a → ((s : ℕ) → has p s ≡ false) → EndsBelow a p 0
+ends_none a p long none = record { long = long; ends = λ s. ((λ h. absurd (let x : true ≡ false = sym h ∙ none s in cc)), (λ h. absurd (let l = h.0 in omega (arith, l)))) }
+
+takes_end : (a : List State) (k : ℕ) (b : Bool) → option_map (λ (st : State). st.ends) (slice_get a k) ≡ Some b → takes a k nil ≡ b
+takes_end [] k b e = cc
+takes_end (st ∷ a) zero b e = some_is st.ends b e
+takes_end (st ∷ a) (suc k) b e = takes_end a k b e
+
+pub ends_skip : (a : List State) (p : List Bool) (k : ℕ) (b : Bool) → EndsBelow a p k → option_map (λ (st : State). st.ends) (slice_get a k) ≡ Some b → b ≡ false → EndsBelow a p (k + 1)
+ends_skip a p k b below is off = record {
+  long = below.long;
+  ends = λ s. (
+    (λ h. let g = (below.ends s).0 h in ((let l = g.0 in omega (arith, l)), g.1)),
+    (λ h. elim (below_or_at s k h.0) [
+      | inl lt ↦ (below.ends s).1 (lt, h.1)
+      | inr same ↦ absurd (let x : true ≡ false = sym h.1 ∙ ap (λ t. takes a t nil) same ∙ takes_end a k b is ∙ off in cc)
+    ]),
+  );
+}
+
+pub ends_one : (a : List State) (p q : List Bool) (k : ℕ) (b : Bool) → EndsBelow a p k → option_map (λ (st : State). st.ends) (slice_get a k) ≡ Some b → b ≡ true → length q ≡ length p
+    → ((s : ℕ) → (has q s ≡ true) ↔ ((s ≡ k) ⊎ (has p s ≡ true))) → EndsBelow a q (k + 1)
+ends_one a p q k b below is on long inserts = record {
+  long = long ∙ below.long;
+  ends = λ s. (
+    (λ h. elim ((inserts s).0 h) [
+      | inl same ↦ ((let e = same in omega (arith, e)), ap (λ t. takes a t nil) same ∙ takes_end a k b is ∙ on)
+      | inr was ↦ (let g = (below.ends s).0 was in ((let l = g.0 in omega (arith, l)), g.1))
+    ]),
+    (λ h. (inserts s).1 (elim (below_or_at s k h.0) [ inl lt ↦ inr ((below.ends s).1 (lt, h.1)) | inr same ↦ inl same ])),
+  );
+}
+
+has_inside : (p : List Bool) (s : ℕ) → has p s ≡ true → s < length p
+has_inside [] s h = cc
+has_inside (b ∷ p) zero h = omega arith
+has_inside (b ∷ p) (suc s) h = (let l = has_inside p s h in omega (arith, l))
+
+pub ends_all : (a : List State) (p : List Bool) (k : ℕ) → length a ≤ k → EndsBelow a p k → IsProfile a p nil
+ends_all a p k le below s = (
+  (λ h. ((below.ends s).0 h).1),
+  (λ t. (below.ends s).1 ((let l = has_inside (profile_nil a) s t in omega (arith, l, le, length-map a (λ (st : State). st.ends))), t)),
+)
 
 -- ---- a tree and a rest
-
-pub moves_inside : (a : List State) (ks : List Kept) (head : Head) (moves : List Move) → MovesBy a ks head moves → (m : Move) → Has moves m → m.from < length a
-moves_inside a ks (Atom k) moves by m h = let e = (by m.from m.to).0 h in slice_get_within a m.from e.0 e.1
-moves_inside a ks (Elem n c) moves by m h = let e = (by.1 m.from m.to).0 h in slice_get_within a m.from e.1.0 e.1.1
 
 kind-sample : (k : AtomKind) → kind_of (sample k) ≡ k
 kind-sample kind.Bool = refl
@@ -63,7 +101,7 @@ puts a ks ls head moves r p are by h long f keeps =
     let k = keeps_more a ks ls p (recipe_of head r) are (names_earlier a ks head moves r by h) (recipe_profile a ks head moves r p are by h f) long keeps in
     record { kept = k.kept; grows = k.grows; answered = inr (k.there.0, k.there.1, subst (Fires moves (set_at ks r)) (sym k.there.2) f) }
 
-pub set_at-read : (ks : List Kept) (i : ℕ) (k d : Kept) (p : List Bool) → i < length ks → k ≡ get_or ks i d → p ≡ k.set.items → p ≡ set_at ks i
+pub set_at-read : (ks : List Kept) (i : ℕ) (k d : Kept) (p : List Bool) → i < length ks → k ≡ get_or ks i d → p ≡ k.set → p ≡ set_at ks i
 set_at-read ks i k d p h e f = f ∙ ap set_of (sym (read_is ks i k d h e))
 
 -- ---- as more is kept
@@ -155,11 +193,11 @@ element_moves_by a groups n p moves is by s r = (
 pub added_trees : (a : List State) (groups : List Group) (ks : List Kept) (ts us : List Tree) (n : ℕ) → IndexesGroups a groups → n < length ks → AreTrees a ks ts → AddsElements groups (set_at ks n) n ts us → AreTrees a ks us
 added_trees a groups ks ts us n is inside trees adds t h = elim (adds.new t h) [
   | inl old ↦ trees t old
-  | inr (m, e, by) ↦ subst (λ head. MovesBy a ks head t.moves.items) (sym e) (inside, element_moves_by a groups m (set_at ks n) t.moves.items is by)
+  | inr (m, e, by, wide) ↦ (wide (length a) is.wide, subst (λ head. MovesBy a ks head t.moves.items) (sym e) (inside, element_moves_by a groups m (set_at ks n) t.moves.items is by))
 ]
 
 pub trees-grow : (a : List State) (ks ls : List Kept) (ts : List Tree) → Grows ks ls → AreTrees a ks ts → AreTrees a ls ts
-trees-grow a ks ls ts g trees t h = moves_by-grows a ks ls t.head t.moves.items g (trees t h)
+trees-grow a ks ls ts g trees t h = let p = trees t h in (p.0, moves_by-grows a ks ls t.head t.moves.items g p.1)
 
 pub turned : (a : List State) (groups : List Group) (ks ls : List Kept) (ts us : List Tree) (n : ℕ) → IndexesGroups a groups → n < length ks → IsDone a ks ts n → AddsElements groups (set_at ks n) n ts us
     → FillsAll a ks ls us n (length us) → Turned a ks ls us n
@@ -210,13 +248,13 @@ pub adds_below_none : (groups : List Group) (p : List Bool) (c : ℕ) (ts : List
 adds_below_none groups p c ts = record { grows = grows-refl ts; stand = λ j g l. absurd (omega (arith, l)); new = λ t h. inl h }
 
 pub adds_below_next : (groups : List Group) (p : List Bool) (c : ℕ) (ts us vs : List Tree) (k : ℕ) (g : Group) (moves : List Move) → AddsBelow groups p c ts us k → slice_get groups k ≡ Some g
-    → ByLinks groups g.label p moves → AddsTree us vs (Elem g.label c) moves → AddsBelow groups p c ts vs (k + 1)
-adds_below_next groups p c ts us vs k g moves before is by adds = record {
+    → ByLinks groups g.label p moves → ((w : ℕ) → AreWideGroups w groups → AreWide w moves) → AddsTree us vs (Elem g.label c) moves → AddsBelow groups p c ts vs (k + 1)
+adds_below_next groups p c ts us vs k g moves before is by wide adds = record {
   grows = grows-trans ts us vs before.grows adds.grows;
   stand = λ j h l at. stand j h at (below_or_at j k l);
   new = λ t h. elim (adds.new t h) [
     | inl old ↦ before.new t old
-    | inr e ↦ inr (g.label, e.0, subst (ByLinks groups g.label p) (sym e.1) by)
+    | inr e ↦ inr (g.label, e.0, subst (ByLinks groups g.label p) (sym e.1) by, (λ w are. subst (AreWide w) (sym e.1) (wide w are)))
   ];
 }
   where
@@ -257,5 +295,5 @@ edges_at [] s es e = cc
 edges_at (st ∷ a) zero es e = (st, refl, some_is st.edges es e)
 edges_at (st ∷ a) (suc s) es e = edges_at a s es e
 
-pub added_at : (groups : List Group) (ks : List Kept) (n : ℕ) (k d : Kept) (p : List Bool) (ts us : List Tree) → n < length ks → k ≡ get_or ks n d → p ≡ k.set.items → AddsElements groups p n ts us → AddsElements groups (set_at ks n) n ts us
+pub added_at : (groups : List Group) (ks : List Kept) (n : ℕ) (k d : Kept) (p : List Bool) (ts us : List Tree) → n < length ks → k ≡ get_or ks n d → p ≡ k.set → AddsElements groups p n ts us → AddsElements groups (set_at ks n) n ts us
 added_at groups ks n k d p ts us l e f adds = subst (λ q. AddsElements groups q n ts us) (set_at-read ks n k d p l e f) adds

@@ -1,5 +1,5 @@
 -- The edges of an automaton, by what they go by.
-use Rattle.std.specs.Prelude.{◌≡◌, ◌⊎◌, ◌↔◌, ℕ, ◌<◌, List, Bool, true, Some, slice_get}
+use Rattle.std.specs.Prelude.{◌≡◌, ◌⊎◌, ◌↔◌, ℕ, ◌<◌, List, Bool, true, Some, length, slice_get}
 use Rattle.flux_atom.specs.declared.atom.AtomKind.{AtomKind}
 use Rattle.flux_atom.specs.declared.atom.AtomKind.TheVariants as kind
 use Rattle.flux_auto.specs.declared.edge.Edge.{Edge}
@@ -11,61 +11,111 @@ use Rattle.flux_subtype.specs.declared.index.Group.{Group}
 use Rattle.flux_subtype.specs.declared.index.Index.{Index}
 use Rattle.flux_subtype.specs.Going.{Has, HasEdge}
 
+-- one of the moves goes from s to r
+abbrev pub Moves : List Move → ℕ → ℕ → Type 0
+Moves moves s r = (m : Move) × Has moves m × (m.to ≡ r) × (has m.from s ≡ true)
+
+-- one of the links goes from s to r by a content that the state c takes
+abbrev pub Links : List Link → ℕ → ℕ → ℕ → Type 0
+Links links s c r = (l : Link) × Has links l × (l.content ≡ c) × Moves l.moves.items s r
+
+-- one of the links of the label's group goes so
+abbrev pub HasLink : List Group → ℕ → ℕ → ℕ → ℕ → Type 0
+HasLink groups s n c r = (group : Group) × Has groups group × (group.label ≡ n) × Links group.links.items s c r
+
 -- the moves by atoms of a kind
 abbrev pub moves_of : Index → AtomKind → List Move
 moves_of index kind.Bool = index.bools.items
 moves_of index kind.Text = index.texts.items
 
--- a link from s to r by an element of the label with the content's state c stands in its group
-abbrev pub HasLink : List Group → ℕ → ℕ → ℕ → ℕ → Type 0
-HasLink groups s n c r = (group : Group) × Has groups group × (group.label ≡ n) × Has group.links.items (record { from = s; content = c; to = r })
-
 -- the edge of the state is there
 abbrev pub Listed : Index → ℕ → Edge → Type 0
-Listed index s (Atom k r) = Has (moves_of index k) (record { from = s; to = r })
+Listed index s (Atom k r) = Moves (moves_of index k) s r
 Listed index s (Elem n c r) = HasLink index.groups.items s n c r
 
 -- different groups have different labels
 abbrev pub Differ : List Group → Type 0
 Differ groups = (i j : ℕ) (g h : Group) → slice_get groups i ≡ Some g → slice_get groups j ≡ Some h → g.label ≡ h.label → i ≡ j
 
+-- each set is one of n states
+abbrev pub AreWide : ℕ → List Move → Type 0
+AreWide n moves = (m : Move) → Has moves m → length m.from ≡ n
+
+abbrev pub AreWideLinks : ℕ → List Link → Type 0
+AreWideLinks n links = (l : Link) → Has links l → AreWide n l.moves.items
+
+abbrev pub AreWideGroups : ℕ → List Group → Type 0
+AreWideGroups n groups = (g : Group) → Has groups g → AreWideLinks n g.links.items
+
+pub record IsWide (n : ℕ) (index : Index) : Type 0 where
+  pub kinds : (k : AtomKind) → AreWide n (moves_of index k)
+  pub groups : AreWideGroups n index.groups.items
+
+-- one move more
+pub record AddsMove (n : ℕ) (old new : List Move) (s r : ℕ) : Type 0 where
+  pub wide : AreWide n new
+  pub moves : (t q : ℕ) → Moves new t q ↔ (Moves old t q ⊎ ((t ≡ s) × (q ≡ r)))
+
+-- one link more
+pub record AddsLink (n : ℕ) (old new : List Link) (s c r : ℕ) : Type 0 where
+  pub wide : AreWideLinks n new
+  pub links : (t d q : ℕ) → Links new t d q ↔ (Links old t d q ⊎ ((t ≡ s) × (d ≡ c) × (q ≡ r)))
+
+-- the link by the content c is at the place, and there are the moves that there were
+pub record FindsLink (old new : List Link) (c place : ℕ) : Type 0 where
+  pub there : (l : Link) × (slice_get new place ≡ Some l) × (l.content ≡ c)
+  pub wide : (n : ℕ) → AreWideLinks n old → AreWideLinks n new
+  pub same : (t d q : ℕ) → Links new t d q ↔ Links old t d q
+
+-- the group of the label n is at the place, and there are the links that there were
+pub record FindsGroup (old new : List Group) (n place : ℕ) : Type 0 where
+  pub there : (g : Group) × (slice_get new place ≡ Some g) × (g.label ≡ n)
+  pub differ : Differ old → Differ new
+  pub wide : (k : ℕ) → AreWideGroups k old → AreWideGroups k new
+  pub same : (t m d q : ℕ) → HasLink new t m d q ↔ HasLink old t m d q
+
 -- one edge more
-pub record AddsEdge (old new : Index) (s : ℕ) (e : Edge) : Type 0 where
+pub record AddsEdge (n : ℕ) (old new : Index) (s : ℕ) (e : Edge) : Type 0 where
   pub differ : Differ old.groups.items → Differ new.groups.items
+  pub wide : IsWide n new
   pub listed : (t : ℕ) (f : Edge) → Listed new t f ↔ (Listed old t f ⊎ ((t ≡ s) × (f ≡ e)))
 
 -- the first k edges of a list more
-pub record AddsEdges (old new : Index) (s : ℕ) (es : List Edge) (k : ℕ) : Type 0 where
+pub record AddsEdges (n : ℕ) (old new : Index) (s : ℕ) (es : List Edge) (k : ℕ) : Type 0 where
   pub differ : Differ old.groups.items → Differ new.groups.items
+  pub wide : IsWide n new
   pub listed : (t : ℕ) (f : Edge) → Listed new t f ↔ (Listed old t f ⊎ ((t ≡ s) × (i : ℕ) × (i < k) × (slice_get es i ≡ Some f)))
 
 -- just the edges of the states below k
 pub record IndexesBelow (a : List State) (k : ℕ) (index : Index) : Type 0 where
   pub differ : Differ index.groups.items
+  pub wide : IsWide (length a) index
   pub listed : (s : ℕ) (e : Edge) → Listed index s e ↔ ((s < k) × HasEdge a s e)
 
 -- the edges of the automaton
 pub record Indexes (a : List State) (index : Index) : Type 0 where
   pub differ : Differ index.groups.items
+  pub wide : IsWide (length a) index
   pub listed : (s : ℕ) (e : Edge) → Listed index s e ↔ HasEdge a s e
 
 -- the links of the automaton
 pub record IndexesGroups (a : List State) (groups : List Group) : Type 0 where
   pub differ : Differ groups
+  pub wide : AreWideGroups (length a) groups
   pub links : (s n c r : ℕ) → HasLink groups s n c r ↔ HasEdge a s (Elem n c r)
 
 -- the moves along links whose content's state is one of the profile's
 abbrev pub Follows : List Link → List Bool → List Move → Type 0
-Follows links p moves = (s r : ℕ) → Has moves (record { from = s; to = r }) ↔ ((c : ℕ) × Has links (record { from = s; content = c; to = r }) × (has p c ≡ true))
+Follows links p moves = (s r : ℕ) → Moves moves s r ↔ ((c : ℕ) × Links links s c r × (has p c ≡ true))
 
 -- the moves by links of the label whose content's state is one of the profile's
 abbrev pub ByLinks : List Group → ℕ → List Bool → List Move → Type 0
-ByLinks groups n p moves = (s r : ℕ) → Has moves (record { from = s; to = r }) ↔ ((c : ℕ) × HasLink groups s n c r × (has p c ≡ true))
+ByLinks groups n p moves = (s r : ℕ) → Moves moves s r ↔ ((c : ℕ) × HasLink groups s n c r × (has p c ≡ true))
 
 -- the moves by an atom of a kind
 abbrev pub ByAtom : List State → AtomKind → List Move → Type 0
-ByAtom a k moves = (s r : ℕ) → Has moves (record { from = s; to = r }) ↔ HasEdge a s (Atom k r)
+ByAtom a k moves = (s r : ℕ) → Moves moves s r ↔ HasEdge a s (Atom k r)
 
 -- the moves by an element of the label whose content has the profile
 abbrev pub ByElement : List State → ℕ → List Bool → List Move → Type 0
-ByElement a n p moves = (s r : ℕ) → Has moves (record { from = s; to = r }) ↔ ((c : ℕ) × HasEdge a s (Elem n c r) × (has p c ≡ true))
+ByElement a n p moves = (s r : ℕ) → Moves moves s r ↔ ((c : ℕ) × HasEdge a s (Elem n c r) × (has p c ≡ true))

@@ -40,7 +40,7 @@ forest_at ks i = forest_in (forests_after [] ks) i
 
 abbrev pub set_of : Option Kept → List Bool
 set_of None = []
-set_of (Some k) = k.set.items
+set_of (Some k) = k.set
 
 -- a kept profile
 abbrev pub set_at : List Kept → ℕ → List Bool
@@ -71,4 +71,4 @@ IsFresh ks p = (i : ℕ) → i < length ks → set_at ks i ≡ p → ⊥
 
 -- the profile is put at the end, unless it is kept already
 abbrev pub Keeps : List Kept → List Bool → Recipe → List Kept → Type 0
-Keeps ks p from ls = ((ls ≡ ks) × IsKept ks p) ⊎ (IsFresh ks p × ((k : Kept) × (k.set.items ≡ p) × (k.from ≡ from) × (ls ≡ ks ++ k ∷ [])))
+Keeps ks p from ls = ((ls ≡ ks) × IsKept ks p) ⊎ (IsFresh ks p × ((k : Kept) × (k.set ≡ p) × (k.from ≡ from) × (ls ≡ ks ++ k ∷ [])))

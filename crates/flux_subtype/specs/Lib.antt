@@ -1,3 +1,4 @@
+pub mod Set
 pub mod Going
 pub mod Index
 pub mod Kept

@@ -12,16 +12,16 @@ use Rattle.flux_subtype.specs.declared.trees.Head.{Head}
 use Rattle.flux_subtype.specs.declared.trees.Head.TheVariants.{Atom, Elem}
 use Rattle.flux_subtype.specs.declared.trees.Tree.{Tree}
 use Rattle.flux_subtype.specs.Going.{Has, IsProfile, IsDead}
-use Rattle.flux_subtype.specs.Index.{ByAtom, ByElement, ByLinks}
+use Rattle.flux_subtype.specs.Index.{Moves, AreWide, AreWideGroups, ByAtom, ByElement, ByLinks}
 use Rattle.flux_subtype.specs.Kept.{set_at, AreKept, Grows}
 
 -- the profile of a tree and a rest with the profile q is p, where the tree makes the moves
 abbrev pub Fires : List Move → List Bool → List Bool → Type 0
-Fires moves q p = (s : ℕ) → (has p s ≡ true) ↔ ((m : Move) × Has moves m × (m.from ≡ s) × (has q m.to ≡ true))
+Fires moves q p = (s : ℕ) → (has p s ≡ true) ↔ ((r : ℕ) × Moves moves s r × (has q r ≡ true))
 
 -- no state takes such a tree and such a rest
 abbrev pub IsSilent : List Move → List Bool → Type 0
-IsSilent moves q = (m : Move) → Has moves m → has q m.to ≡ true → ⊥
+IsSilent moves q = (s r : ℕ) → Moves moves s r → has q r ≡ true → ⊥
 
 -- the moves of the tree are those by its head
 abbrev pub MovesBy : List State → List Kept → Head → List Move → Type 0
@@ -29,7 +29,7 @@ MovesBy a ks (Atom k) moves = ByAtom a k moves
 MovesBy a ks (Elem n c) moves = (c < length ks) × ByElement a n (set_at ks c) moves
 
 abbrev pub AreTrees : List State → List Kept → List Tree → Type 0
-AreTrees a ks ts = (t : Tree) → Has ts t → MovesBy a ks t.head t.moves.items
+AreTrees a ks ts = (t : Tree) → Has ts t → AreWide (length a) t.moves.items × MovesBy a ks t.head t.moves.items
 
 -- a tree with the moves is kept, or there are none
 abbrev pub Stands : List Tree → List Move → Type 0
@@ -45,9 +45,10 @@ pub record AddsTree (ts us : List Tree) (head : Head) (moves : List Move) : Type
   pub stands : Stands us moves
   pub new : (t : Tree) → Has us t → Has ts t ⊎ ((t.head ≡ head) × (t.moves.items ≡ moves))
 
--- the tree is an element whose content has the profile p, which is kept at c
+-- the tree is an element whose content has the profile p, which is kept at c; its moves are as wide
+-- as those of the groups
 abbrev pub IsElementOf : List Group → List Bool → ℕ → Tree → Type 0
-IsElementOf groups p c t = (n : ℕ) × (t.head ≡ Elem n c) × ByLinks groups n p t.moves.items
+IsElementOf groups p c t = (n : ℕ) × (t.head ≡ Elem n c) × ByLinks groups n p t.moves.items × ((w : ℕ) → AreWideGroups w groups → AreWide w t.moves.items)
 
 -- the elements of each label are kept, if they make new moves
 pub record AddsElements (groups : List Group) (p : List Bool) (c : ℕ) (ts us : List Tree) : Type 0 where

@@ -1,28 +1,29 @@
 // The edges of an automaton, by what they go by.
-ghost use Rattle.std.specs.Prelude.{◌≡◌, ◌<◌, ◌↔◌, ℕ, Some, None, length, slice_get, IfOk, IfSome, IfNone};
-ghost use Rattle.flux_auto.specs.Takes.{has};
+ghost use Rattle.std.specs.Prelude.{◌≡◌, ◌<◌, ◌↔◌, ◌++◌, ℕ, Some, length, slice_get, IfOk, IfSome, IfNone};
 ghost use Rattle.flux_auto.specs.declared.edge.Edge.TheVariants.{Atom, Elem};
+ghost use Rattle.flux_subtype.specs.declared.index.Move.{Move};
+ghost use Rattle.flux_subtype.specs.declared.index.Link.{Link};
 ghost use Rattle.flux_subtype.specs.declared.index.Group.{Group};
 ghost use Rattle.flux_subtype.specs.Going.{Has};
-ghost use Rattle.flux_subtype.specs.Index.{AddsEdge, AddsEdges, Indexes, IndexesBelow, Follows};
+ghost use Rattle.flux_subtype.specs.Index.{AreWide, AreWideLinks, IsWide, AddsMove, AddsLink, AddsEdge, AddsEdges, Indexes, Follows, FindsLink, FindsGroup};
 
+use crate::set::Set;
 use flux_atom::{AtomKind, Name};
 use flux_auto::{Auto, Edge};
 use std::alloc::{AllocError, Global};
 
-// A state that goes on by a tree, and the state that takes what comes after it.
-#[derive(Clone, Copy, Debug)]
+// The states that go on by a tree to one state, which takes what comes after it.
+#[derive(Drop)]
 pub(crate) struct Move {
-    pub(crate) from: u64,
+    pub(crate) from: Set,
     pub(crate) to: u64,
 }
 
-// A move by an element, and the state of its content.
-#[derive(Clone, Copy, Debug)]
+// The moves by elements whose content one state takes.
+#[derive(Drop)]
 pub(crate) struct Link {
-    pub(crate) from: u64,
     pub(crate) content: u64,
-    pub(crate) to: u64,
+    pub(crate) moves: Vec<Move>,
 }
 
 // The links by elements of one label.
@@ -40,6 +41,81 @@ pub(crate) struct Index {
     pub(crate) groups: Vec<Group>,
 }
 
+fn move_to(moves: &[Move], to: u64) -> Option<usize>
+    ensures { IfSome result (λ i. (m : Move) × (slice_get moves.now i ≡ Some m) × (m.to ≡ to)) }
+{
+    for index in 0..moves.len() {
+        if moves[index].to == to {
+            return Some(index);
+        }
+    }
+    None
+}
+
+// Adds a move from one of so many states to another.
+fn add_move(
+    alloc: Global,
+    moves: &mut Vec<Move>,
+    states: usize,
+    from: u64,
+    to: u64,
+) -> Result<(), AllocError>
+    requires wide { AreWide states moves.old.items }
+    requires from { from < states }
+    ensures { IfOk result (λ _. AddsMove states moves.old.items moves.new.items from to) }
+{
+    match move_to(moves, to) {
+        Some(place) => moves[place].from.insert(from),
+        None => {
+            let mut only = Set::none(alloc, states)?;
+            only.insert(from);
+            moves.push(Move { from: only, to })?;
+        }
+    }
+    Ok(())
+}
+
+fn link_of(links: &[Link], content: u64) -> Option<usize>
+    ensures { IfSome result (λ i. (l : Link) × (slice_get links.now i ≡ Some l) × (l.content ≡ content)) }
+{
+    for index in 0..links.len() {
+        if links[index].content == content {
+            return Some(index);
+        }
+    }
+    None
+}
+
+// The place of the link by a content, which is put at the end if there is none.
+fn find_link(alloc: Global, links: &mut Vec<Link>, content: u64) -> Result<usize, AllocError>
+    ensures { IfOk result (λ place. FindsLink links.old.items links.new.items content place) }
+{
+    if let Some(place) = link_of(links, content) {
+        return Ok(place);
+    }
+    let place = links.len();
+    let moves = Vec::new(alloc);
+    links.push(Link { content, moves })?;
+    Ok(place)
+}
+
+fn add_link(
+    alloc: Global,
+    links: &mut Vec<Link>,
+    states: usize,
+    from: u64,
+    content: u64,
+    to: u64,
+) -> Result<(), AllocError>
+    requires wide { AreWideLinks states links.old.items }
+    requires from { from < states }
+    ensures { IfOk result (λ _. AddsLink states links.old.items links.new.items from content to) }
+{
+    let place = find_link(alloc, links, content)?;
+    add_move(alloc, &mut links[place].moves, states, from, to)?;
+    Ok(())
+}
+
 fn group_of(groups: &[Group], label: Name) -> Option<usize>
     ensures found { IfSome result (λ i. (g : Group) × (slice_get groups.now i ≡ Some g) × (g.label ≡ label)) }
     ensures none { IfNone result ((g : Group) → Has groups.now g → g.label ≡ label → ⊥) }
@@ -52,52 +128,80 @@ fn group_of(groups: &[Group], label: Name) -> Option<usize>
     None
 }
 
-fn add_link(
+// The place of the group of a label, which is put at the end if there is none.
+fn find_group(alloc: Global, groups: &mut Vec<Group>, label: Name) -> Result<usize, AllocError>
+    ensures { IfOk result (λ place. FindsGroup groups.old.items groups.new.items label place) }
+{
+    if let Some(place) = group_of(groups, label) {
+        return Ok(place);
+    }
+    let place = groups.len();
+    let links = Vec::new(alloc);
+    groups.push(Group { label, links })?;
+    Ok(place)
+}
+
+fn add_atom(
     alloc: Global,
     index: &mut Index,
-    label: Name,
+    states: usize,
     from: u64,
-    content: u64,
+    kind: AtomKind,
     to: u64,
 ) -> Result<(), AllocError>
-    ensures { IfOk result (λ _. AddsEdge index.old index.new from (Elem label content to)) }
+    requires wide { IsWide states index.old }
+    requires from { from < states }
+    ensures { IfOk result (λ _. AddsEdge states index.old index.new from (Atom kind to)) }
 {
-    let link = Link { from, content, to };
-    match group_of(&index.groups, label) {
-        Some(place) => index.groups[place].links.push(link)?,
-        None => {
-            let links = vec![in alloc; link]?;
-            index.groups.push(Group { label, links })?
+    match kind {
+        AtomKind::Bool => add_move(alloc, &mut index.bools, states, from, to)?,
+        AtomKind::Text => add_move(alloc, &mut index.texts, states, from, to)?,
+    }
+    Ok(())
+}
+
+fn add_edge(
+    alloc: Global,
+    index: &mut Index,
+    states: usize,
+    state: u64,
+    edge: &Edge,
+) -> Result<(), AllocError>
+    requires wide { IsWide states index.old }
+    requires state { state < states }
+    ensures { IfOk result (λ _. AddsEdge states index.old index.new state edge.now) }
+{
+    match edge {
+        Edge::Atom(kind, to) => add_atom(alloc, index, states, state, *kind, *to)?,
+        Edge::Elem(label, content, to) => {
+            let groups = &mut index.groups;
+            let place = find_group(alloc, groups, *label)?;
+            add_link(
+                alloc,
+                &mut groups[place].links,
+                states,
+                state,
+                *content,
+                *to,
+            )?
         }
     }
     Ok(())
 }
 
-fn add_move(index: &mut Index, kind: AtomKind, from: u64, to: u64) -> Result<(), AllocError>
-    ensures { IfOk result (λ _. AddsEdge index.old index.new from (Atom kind to)) }
-{
-    let step = Move { from, to };
-    match kind {
-        AtomKind::Bool => index.bools.push(step)?,
-        AtomKind::Text => index.texts.push(step)?,
-    }
-    Ok(())
-}
-
-fn add_edge(alloc: Global, index: &mut Index, state: u64, edge: &Edge) -> Result<(), AllocError>
-    ensures { IfOk result (λ _. AddsEdge index.old index.new state edge.now) }
-{
-    match edge {
-        Edge::Atom(kind, to) => add_move(index, *kind, state, *to),
-        Edge::Elem(label, content, to) => add_link(alloc, index, *label, state, *content, *to),
-    }
-}
-
-fn add_edges(alloc: Global, index: &mut Index, state: u64, edges: &[Edge]) -> Result<(), AllocError>
-    ensures { IfOk result (λ _. AddsEdges index.old index.new state edges.now (length edges.now)) }
+fn add_edges(
+    alloc: Global,
+    index: &mut Index,
+    states: usize,
+    state: u64,
+    edges: &[Edge],
+) -> Result<(), AllocError>
+    requires wide { IsWide states index.old }
+    requires state { state < states }
+    ensures { IfOk result (λ _. AddsEdges states index.old index.new state edges.now (length edges.now)) }
 {
     for place in 0..edges.len() {
-        add_edge(alloc, index, state, &edges[place])?;
+        add_edge(alloc, index, states, state, &edges[place])?;
     }
     Ok(())
 }
@@ -111,39 +215,38 @@ pub(crate) fn index_of(alloc: Global, auto: &Auto) -> Result<Index, AllocError>
         texts: Vec::new(alloc),
         groups: Vec::new(alloc),
     };
-    let end = auto.states();
-    for state in 0..end {
-        add_edges(alloc, &mut index, state, auto.edges(state))?;
+    let states = auto.states() as usize;
+    for state in 0..auto.states() {
+        add_edges(alloc, &mut index, states, state, auto.edges(state))?;
     }
     Ok(index)
 }
 
-// Whether a profile has a state.
-pub(crate) fn has_state(set: &[bool], state: u64) -> bool
-    ensures { result ≡ has set.now state }
+fn add_copies(alloc: Global, moves: &[Move], to: &mut Vec<Move>) -> Result<(), AllocError>
+    ensures { IfOk result (λ _. to.new.items ≡ to.old.items ++ moves.now) }
 {
-    match set.get(state as usize) {
-        Some(known) => *known,
-        None => false,
+    for index in 0..moves.len() {
+        let step = &moves[index];
+        let from = step.from.copy(alloc)?;
+        to.push(Move { from, to: step.to })?;
     }
+    Ok(())
 }
 
 // The moves along links whose content has a profile.
 pub(crate) fn moves_along(
     alloc: Global,
     links: &[Link],
-    content: &[bool],
+    content: &Set,
 ) -> Result<Vec<Move>, AllocError>
-    ensures { IfOk result (λ moves. Follows links.now content.now moves.items) }
+    ensures follows { IfOk result (λ moves. Follows links.now content.now moves.items) }
+    ensures wide { IfOk result (λ moves. (n : ℕ) → AreWideLinks n links.now → AreWide n moves.items) }
 {
     let mut moves = Vec::new(alloc);
     for place in 0..links.len() {
-        let link = links[place];
-        if has_state(content, link.content) {
-            moves.push(Move {
-                from: link.from,
-                to: link.to,
-            })?;
+        let link = &links[place];
+        if content.has(link.content) {
+            add_copies(alloc, &link.moves, &mut moves)?;
         }
     }
     Ok(moves)

@@ -1,7 +1,8 @@
 // The profiles that are kept.
-ghost use Rattle.std.specs.Prelude.{◌≡◌, ◌↔◌, IfOk, IfSome, IfNone, IsTrue};
+ghost use Rattle.std.specs.Prelude.{IfOk, IfSome, IfNone};
 ghost use Rattle.flux_subtype.specs.Kept.{Keeps, IsKept, IsFresh};
 
+use crate::set::Set;
 use flux_atom::{AtomKind, Name};
 use std::alloc::AllocError;
 
@@ -17,26 +18,20 @@ pub(crate) enum Recipe {
 // The states that take a forest, and how it is made.
 #[derive(Drop)]
 pub(crate) struct Kept {
-    pub(crate) set: Vec<bool>,
+    pub(crate) set: Set,
     pub(crate) from: Recipe,
 }
 
-fn is_same(left: &[bool], right: &[bool]) -> bool
-    ensures { IsTrue result ↔ (left.now ≡ right.now) }
-{
-    left == right
-}
-
 // The place of a profile, if it is kept. One place is looked at first.
-fn place_of(kept: &[Kept], set: &[bool], first: usize) -> Option<usize>
+fn place_of(kept: &[Kept], set: &Set, first: usize) -> Option<usize>
     ensures found { IfSome result (λ _. IsKept kept.now set.now) }
     ensures none { IfNone result (IsFresh kept.now set.now) }
 {
-    if first < kept.len() && is_same(&kept[first].set, set) {
+    if first < kept.len() && kept[first].set.is_same(set) {
         return Some(first);
     }
     for index in 0..kept.len() {
-        if is_same(&kept[index].set, set) {
+        if kept[index].set.is_same(set) {
             return Some(index);
         }
     }
@@ -47,11 +42,11 @@ fn place_of(kept: &[Kept], set: &[bool], first: usize) -> Option<usize>
 // a search.
 pub(crate) fn keep(
     kept: &mut Vec<Kept>,
-    set: Vec<bool>,
+    set: Set,
     from: Recipe,
     guess: usize,
 ) -> Result<usize, AllocError>
-    ensures { IfOk result (λ _. Keeps kept.old.items set.items from kept.new.items) }
+    ensures { IfOk result (λ _. Keeps kept.old.items set from kept.new.items) }
 {
     if let Some(place) = place_of(kept, &set, guess) {
         return Ok(place);

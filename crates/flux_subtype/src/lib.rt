@@ -5,6 +5,7 @@ mod index;
 mod kept;
 mod profiles;
 mod search;
+mod set;
 mod trees;
 mod witness;
 

@@ -1,36 +1,40 @@
 // The search for a forest that one state takes and another doesn't.
 ghost use Rattle.std.specs.Prelude.{◌≡◌, ◌↔◌, ◌<◌, ◌≤◌, ◌+◌, ℕ, [], length, IfOk, IfSome, IfNone, IsTrue, true, false};
-ghost use Rattle.flux_auto.specs.Takes.{has, profile_nil};
-ghost use Rattle.flux_subtype.specs.declared.index.Move.{Move};
-ghost use Rattle.flux_subtype.specs.Going.{Has};
-ghost use Rattle.flux_subtype.specs.Index.{Indexes, IndexesGroups};
+ghost use Rattle.flux_trees.specs.Hedge.{nil};
+ghost use Rattle.flux_auto.specs.Takes.{has};
+ghost use Rattle.flux_subtype.specs.Going.{IsProfile};
+ghost use Rattle.flux_subtype.specs.Index.{AreWide, IndexesGroups};
 ghost use Rattle.flux_subtype.specs.Kept.{set_at, AreKept};
 ghost use Rattle.flux_subtype.specs.Search.{Fires, IsSilent, MovesBy, AreTrees, AnsweredBelow, Puts, Fills, FillsAll, IsDone, Turned, IsAgainst, IsAnswer, recipe_of};
 
-use crate::index::{Group, Index, Move, has_state, index_of};
+use crate::index::{Group, Index, Move, index_of};
 use crate::kept::{Kept, Recipe, keep};
+use crate::set::Set;
 use crate::trees::{Head, Tree, add_elements, add_tree};
 use flux_atom::AtomKind;
 use flux_auto::Auto;
 use std::alloc::{AllocError, Global};
 
 // The profile of the empty forest.
-fn nil_profile(alloc: Global, auto: &Auto) -> Result<Vec<bool>, AllocError>
-    ensures { IfOk result (λ set. set.items ≡ profile_nil auto.now.states) }
+fn nil_profile(alloc: Global, auto: &Auto) -> Result<Set, AllocError>
+    ensures long { IfOk result (λ set. length set ≡ length auto.now.states) }
+    ensures profile { IfOk result (λ set. IsProfile auto.now.states set nil) }
 {
-    let mut set = Vec::new(alloc);
+    let mut set = Set::none(alloc, auto.states() as usize)?;
     for state in 0..auto.states() {
-        set.push(auto.ends(state))?;
+        if auto.ends(state) {
+            set.insert(state);
+        }
     }
     Ok(set)
 }
 
 // Whether no state takes a tree of these moves before a rest with the profile.
-fn is_silent(moves: &[Move], rest: &[bool]) -> bool
+fn is_silent(moves: &[Move], rest: &Set) -> bool
     ensures { IsTrue result → IsSilent moves.now rest.now }
 {
     for index in 0..moves.len() {
-        if has_state(rest, moves[index].to) {
+        if rest.has(moves[index].to) {
             return false;
         }
     }
@@ -38,16 +42,16 @@ fn is_silent(moves: &[Move], rest: &[bool]) -> bool
 }
 
 // The profile of a tree of these moves and a rest with the profile.
-fn fired(alloc: Global, auto: &Auto, moves: &[Move], rest: &[bool]) -> Result<Vec<bool>, AllocError>
-    requires { (m : Move) → Has moves.now m → m.from < length auto.now.states }
-    ensures long { IfOk result (λ set. length set.items ≡ length auto.now.states) }
-    ensures fires { IfOk result (λ set. Fires moves.now rest.now set.items) }
+fn fired(alloc: Global, auto: &Auto, moves: &[Move], rest: &Set) -> Result<Set, AllocError>
+    requires { AreWide (length auto.now.states) moves.now }
+    ensures long { IfOk result (λ set. length set ≡ length auto.now.states) }
+    ensures fires { IfOk result (λ set. Fires moves.now rest.now set) }
 {
-    let mut set = vec![in alloc; false; auto.states() as usize]?;
+    let mut set = Set::none(alloc, auto.states() as usize)?;
     for index in 0..moves.len() {
-        let step = moves[index];
-        if has_state(rest, step.to) {
-            set[step.from as usize] = true;
+        let step = &moves[index];
+        if rest.has(step.to) {
+            set.join(&step.from);
         }
     }
     Ok(set)
@@ -73,14 +77,14 @@ fn put(
 ) -> Result<usize, AllocError>
     requires kept { AreKept auto.now.states kept.old.items }
     requires tree { MovesBy auto.now.states kept.old.items tree.now.head tree.now.moves.items }
+    requires wide { AreWide (length auto.now.states) tree.now.moves.items }
     requires rest { rest < length kept.old.items }
     ensures { IfOk result (λ _. Puts auto.now.states kept.old.items kept.new.items tree.now.moves.items (set_at kept.old.items rest)) }
 {
-    let behind = kept[rest].set.as_slice();
-    if is_silent(&tree.moves, behind) {
+    if is_silent(&tree.moves, &kept[rest].set) {
         return Ok(guess);
     }
-    let set = fired(alloc, auto, &tree.moves, behind)?;
+    let set = fired(alloc, auto, &tree.moves, &kept[rest].set)?;
     let place = keep(kept, set, recipe(tree.head, rest), guess)?;
     Ok(place)
 }
@@ -97,6 +101,7 @@ fn fill(
 ) -> Result<usize, AllocError>
     requires kept { AreKept auto.now.states kept.old.items }
     requires tree { MovesBy auto.now.states kept.old.items tree.now.head tree.now.moves.items }
+    requires wide { AreWide (length auto.now.states) tree.now.moves.items }
     requires from { from ≤ to }
     requires to { to ≤ length kept.old.items }
     ensures { IfOk result (λ _. Fills auto.now.states kept.old.items kept.new.items tree.now.moves.items from to) }
@@ -170,9 +175,9 @@ fn turn(
 }
 
 fn is_against(kept: &Kept, left: u64, right: u64) -> bool
-    ensures { IsTrue result ↔ ((has kept.now.set.items left ≡ true) × (has kept.now.set.items right ≡ false)) }
+    ensures { IsTrue result ↔ ((has kept.now.set left ≡ true) × (has kept.now.set right ≡ false)) }
 {
-    has_state(&kept.set, left) && !has_state(&kept.set, right)
+    kept.set.has(left) && !kept.set.has(right)
 }
 
 // The first profile from an index on that has the left state and lacks the right one.

@@ -6,6 +6,7 @@ ghost use Rattle.flux_subtype.specs.Index.{Differ};
 ghost use Rattle.flux_subtype.specs.Search.{AddsTree, AddsElements};
 
 use crate::index::{Group, Move, moves_along};
+use crate::set::Set;
 use flux_atom::{AtomKind, Name};
 use std::alloc::{AllocError, Global};
 
@@ -23,10 +24,10 @@ pub(crate) struct Tree {
     pub(crate) moves: Vec<Move>,
 }
 
-fn is_move(left: Move, right: Move) -> bool
-    ensures { IsTrue result → left ≡ right }
+fn is_move(left: &Move, right: &Move) -> bool
+    ensures { IsTrue result → left.now ≡ right.now }
 {
-    left.from == right.from && left.to == right.to
+    left.to == right.to && left.from.is_same(&right.from)
 }
 
 fn are_same(left: &[Move], right: &[Move]) -> bool
@@ -36,7 +37,7 @@ fn are_same(left: &[Move], right: &[Move]) -> bool
         return false;
     }
     for index in 0..left.len() {
-        if !is_move(left[index], right[index]) {
+        if !is_move(&left[index], &right[index]) {
             return false;
         }
     }
@@ -74,7 +75,7 @@ pub(crate) fn add_tree(
 pub(crate) fn add_elements(
     alloc: Global,
     groups: &[Group],
-    set: &[bool],
+    set: &Set,
     content: usize,
     trees: &mut Vec<Tree>,
 ) -> Result<(), AllocError>

@@ -10,7 +10,12 @@ loop-index-init c = no_fill_all _ _ _ _ c.requires.kept
 pub fill-requires-clause-tree : goal.fill-requires-clause-tree
 fill-requires-clause-tree c =
     let t = c.index-trees-index.result in
-    moves_by-grows _ _ _ t.head t.moves.items c.loop-index.invariant.grows (c.requires.trees t (c.loop-index.index, read_is c.args.trees.now c.loop-index.index t t c.loop-index-test.true c.index-trees-index.is))
+    moves_by-grows _ _ _ t.head t.moves.items c.loop-index.invariant.grows (c.requires.trees t (c.loop-index.index, read_is c.args.trees.now c.loop-index.index t t c.loop-index-test.true c.index-trees-index.is)).1
+
+pub fill-requires-clause-wide : goal.fill-requires-clause-wide
+fill-requires-clause-wide c =
+    let t = c.index-trees-index.result in
+    (c.requires.trees t (c.loop-index.index, read_is c.args.trees.now c.loop-index.index t t c.loop-index-test.true c.index-trees-index.is)).0
 
 pub loop-index-preserved : goal.loop-index-preserved
 loop-index-preserved c =

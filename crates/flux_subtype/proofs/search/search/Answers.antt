@@ -7,7 +7,7 @@ use Rattle.flux_subtype.proofs.search.search.Goals as goal
 pub saturate-requires-clause-begun : goal.saturate-requires-clause-begun
 saturate-requires-clause-begun c =
     begun c.args.auto.now.states c.in_ok-bools.field-0 _ _ _ _ _ _ _ _ c.in_ok-bools.ensures refl refl
-    c.requires c.new-trees.ensures.items c.in_ok-add_tree.ensures c.in_ok-add_tree-2.ensures c.in_ok-nil_profile.ensures c.in_ok-keep.ensures
+    c.requires c.new-trees.ensures.items c.in_ok-add_tree.ensures c.in_ok-add_tree-2.ensures c.in_ok-nil_profile.ensures.profile c.in_ok-nil_profile.ensures.long c.in_ok-keep.ensures
 
 pub saturate-requires-clause-groups : goal.saturate-requires-clause-groups
 saturate-requires-clause-groups c =

@@ -1,5 +1,5 @@
-use Rattle.std.proofs.Common.{subst}
-use Rattle.flux_subtype.specs.Index.{Follows}
+use Rattle.std.proofs.Common.{sym, subst}
+use Rattle.flux_subtype.specs.Index.{Follows, AreWideLinks}
 use Rattle.flux_subtype.proofs.Places.{read_is}
 use Rattle.flux_subtype.proofs.IndexLaws.{group_moves}
 use Rattle.flux_subtype.proofs.Turning.{adds_below_none, adds_below_next, adds_all}
@@ -16,4 +16,5 @@ loop-index-preserved c =
     let g = c.index-groups-index.result in
     let is = read_is c.args.groups.now c.loop-index.index g g c.loop-index-test.true c.index-groups-index.is in
     adds_below_next _ _ _ _ _ _ _ g c.in_ok-moves.moves.items c.loop-index.invariant is
-    (group_moves _ g c.loop-index.index _ _ c.requires is (subst (λ ls. Follows ls c.args.set.now c.in_ok-moves.moves.items) c.deref.ensures.value c.in_ok-moves.ensures)) c.in_ok-add_tree.ensures
+    (group_moves _ g c.loop-index.index _ _ c.requires is (subst (λ ls. Follows ls c.args.set.now c.in_ok-moves.moves.items) c.deref.ensures.value c.in_ok-moves.ensures.follows))
+    (λ w are. c.in_ok-moves.ensures.wide w (subst (AreWideLinks w) (sym c.deref.ensures.value) (are g (c.loop-index.index, is)))) c.in_ok-add_tree.ensures

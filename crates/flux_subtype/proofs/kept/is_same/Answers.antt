@@ -1,6 +1,0 @@
-use Rattle.std.proofs.lemmas.Slice.Eq.{slice_eq-Decides}
-use Rattle.std.specs.Cmp.{booleans_Decides}
-use Rattle.flux_subtype.proofs.kept.is_same.Goals as goal
-
-pub returns : goal.returns
-returns c = slice_eq-Decides booleans_Decides c.args.left.now c.args.right.now c.eq.result c.eq.ensures
