@@ -19,9 +19,6 @@ use Rattle.flux_auto.proofs.Tables.{some_is, get-append, get-end, IsContent-grow
 use Rattle.flux_auto.proofs.Growing.{below_or_not, carried}
 use Rattle.flux_auto.proofs.Meaning.{get-map, content_takes}
 
-pub right_none : (defs : Definitions) (names : List Bool) (a : Table) (added : List Added) → IsComplete defs names a → added ≡ [] → IsRight defs names a added
-right_none defs names a added whole e = record { complete = whole; contents = λ i d h. (let x : None ≡ Some d = ap (λ l. slice_get l i) (sym e) ∙ h in cc) }
-
 -- the same parts
 pub right_as : (defs : Definitions) (names : List Bool) (a b : Table) (xs ys : List Added) → b.cells.items ≡ a.cells.items → b.rows.items ≡ a.rows.items → ys ≡ xs → IsRight defs names a xs → IsRight defs names b ys
 right_as defs names a b xs ys e f g r = record {

@@ -105,13 +105,6 @@ length-take xs zero le = refl
 length-take [] (suc i) le = absurd (omega (arith, le))
 length-take (x ∷ xs) (suc i) le = ap suc (length-take xs i (omega (arith, le)))
 
-pub index_none : (rows : List Row) (a : Arcs) → a.by_label.items ≡ [] → a.texts.items ≡ [] → a.truths.items ≡ [] → IsIndex (take 0 rows) a
-index_none rows a labels texts truths = record { arcs = λ n. ap (λ l. arcs_at l n) labels; leaps = none }
-  where
-    none : (k : AtomKind) → leaps_at a k ≡ []
-    none kind.Bool = truths
-    none kind.Text = texts
-
 pub index_next : (rows : List Row) (a b : Arcs) (i : ℕ) (r : Row) → IsIndex (take i rows) a → i < length rows → r ≡ get_or rows i r → Adds a b (leaving i r.edges.items) → IsIndex (take (i + 1) rows) b
 index_next rows a b i r x lt is y =
     let states = map state_of (take i rows) in

@@ -75,15 +75,6 @@ pub record Builds (rs : List Recipe) (h : Plain) (tasks : List Task) (d : Draft 
   pub open_are : closes tasks ≡ depth d
   pub below : AreBelow (length rs) tasks
 
-pub builds_begin : (rs : List Recipe) (start : ℕ) (none tasks : List Task) (d : Draft (Unit {0})) → start < length rs → none ≡ [] → tasks ≡ none ++ Write start ∷ [] → d ≡ done nil → Builds rs (forest_at (forests rs) start) tasks d
-builds_begin rs start none tasks d lt e f g =
-    let one : tasks ≡ Write start ∷ [] = f ∙ ap (λ l. l ++ Write start ∷ []) e in
-    record {
-      value = ap₂ (finished (forests rs)) one g;
-      open_are = ap closes one ∙ ap depth (sym g);
-      below = subst (AreBelow (length rs)) (sym one) (lt, tt);
-    }
-
 module _ (rs : List Recipe) (h : Plain) (all ts : List Task) (d : Draft (Unit {0})) (b : Builds rs h all d) where
   abbrev hs : List Plain
   hs = forests rs
@@ -164,6 +155,3 @@ module _ (rs : List Recipe) (h : Plain) (all ts : List Task) (d : Draft (Unit {0
 
       pub element_less : costs hs now < costs hs all
       element_less = omega (arith, total, ap (costs hs) k, costs-last hs two (Write c), ap (costs hs) g, costs-last hs one Close, ap (costs hs) f, costs-last hs ts (Write j), ap size shape)
-
-pub builds_done : (rs : List Recipe) (h : Plain) (all : List Task) (d : Draft (Unit {0})) → Builds rs h all d → all ≡ [] → d ≡ done h
-builds_done rs h all d b e = ap (λ l. finished (forests rs) l d) (sym e) ∙ b.value

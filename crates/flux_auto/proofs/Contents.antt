@@ -90,9 +90,6 @@ content_put a b t s even begun p = record {
 none_new : (n : ℕ) (cs : List Cell) → FreshFrom n (length cs) cs
 none_new n cs s c le e = absurd (omega (arith, le, slice_get_within cs s c e))
 
-pub content_found : (a : Table) (t : Ty) (s : ℕ) → IsEven a → IsContent a.cells.items s t → PutContent a a t s
-content_found a t s even k = record { even = even; content = k; fresh = λ n ready. none_new n a.cells.items }
-
 -- ---- the contents of a type
 
 pub fresh_on : (n m i : ℕ) (a b : Table) → FreshFrom n i a.cells.items → Grows m a b → FreshFrom n (length a.cells.items) b.cells.items → FreshFrom n i b.cells.items

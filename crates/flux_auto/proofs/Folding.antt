@@ -14,22 +14,7 @@ use Rattle.flux_auto.specs.Built.{state_of}
 
 -- ---- a loop over rows
 
-pub row_next : {B : Type 0} (f : State → B) (rows : List Row) (i : ℕ) (r : Row) → i < length rows → r ≡ get_or rows i r → map f (map state_of (take (i + 1) rows)) ≡ map f (map state_of (take i rows)) ++ f (state_of r) ∷ []
-row_next f rows i r lt is =
-    ap (λ l. map f (map state_of l)) (take_more rows i r lt ∙ ap (λ x. take i rows ++ x ∷ []) (sym is))
-    ∙ ap (map f) (map_push state_of (take i rows) r) ∙ map_push f (map state_of (take i rows)) (state_of r)
-
 -- ---- the trees of a run
-
-pub trees_next : (done : List View) (one : View) (h rest more whole : Plain) → (h ≡ nil → ⊥) → forest_of one ≡ first h → more ≡ others h → map forest_of done ++ trees h ≡ trees whole → map forest_of (done ++ one ∷ []) ++ trees more ≡ trees whole
-trees_next done one h rest more whole full e f g =
-    ap₂ (λ l k. l ++ trees k) (map_push forest_of done one ∙ ap (λ k. map forest_of done ++ k ∷ []) e) f
-    ∙ append_assoc (map forest_of done) (first h ∷ []) (trees (others h)) ∙ ap (λ l. map forest_of done ++ l) (sym (trees-first h full)) ∙ g
-
-pub rest_less : (h : Plain) → (h ≡ nil → ⊥) → size (others h) < size h
-rest_less nil e = absurd (e refl)
-rest_less (elem n a c r) e = omega arith
-rest_less (leaf n x r) e = omega arith
 
 -- ---- the trees that are left at a level
 
@@ -175,9 +160,6 @@ walks_close states outer inner o all rest set whole w e f g =
           ap (λ q. around states inner (all_before states (forests o.trees.items) q)) g ∙ sym (around_last states inner o rest)
           ∙ ap (λ os. around states os rest) (sym f) ∙ ap (λ runs. around states outer (all_before states (forests runs) rest)) (sym e) ∙ w.value;
     }
-
-pub walks_end : (states : List State) (outer : List Open) (all : List View) (rest : List Bool) (whole : Plain) → Walks states outer all rest whole → all ≡ [] → outer ≡ [] → rest ≡ profile states whole
-walks_end states outer all rest whole w e f = ap (λ runs. all_before states (forests runs) rest) (sym e) ∙ ap (λ os. around states os (all_before states (forests all) rest)) (sym f) ∙ w.value
 
 -- ---- it ends
 

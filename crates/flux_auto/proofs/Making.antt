@@ -132,13 +132,6 @@ take_grown (x ∷ xs) [] le f = absurd (omega (arith, le))
 take_grown (x ∷ xs) (y ∷ ys) le f =
     ap₂ (λ z l. z ∷ l) (some_is y x (f 0 (omega arith))) (take_grown xs ys (omega (arith, le)) (λ i lt. f (suc i) (omega (arith, lt))))
 
-pub take_append : {A : Type 0} (xs ys : List A) → take (length xs) (xs ++ ys) ≡ xs
-take_append [] ys = refl
-take_append (x ∷ xs) ys = ap (λ l. x ∷ l) (take_append xs ys)
-
-pub cut_cells : (n m : ℕ) (a b : Table) → Grows n a b → m ≡ length a.cells.items → take m b.cells.items ≡ a.cells.items
-cut_cells n m a b g e = ap (λ k. take k b.cells.items) e ∙ ap (take (length a.cells.items)) g.cells ∙ take_append a.cells.items g.more
-
 pub cut_rows : (m : ℕ) (a b : Table) → Grows (length a.rows.items) a b → IsEven a → m ≡ length a.cells.items → take m b.rows.items ≡ a.rows.items
 cut_rows m a b g even e = ap (λ k. take k b.rows.items) (e ∙ sym even) ∙ take_grown a.rows.items b.rows.items g.longer g.rows
 

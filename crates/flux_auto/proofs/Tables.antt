@@ -179,8 +179,5 @@ Ready-grows n cs ds (alt t u) h = (Ready-grows n cs ds t h.0, Ready-grows n cs d
 Ready-grows n cs ds (star t) h = Ready-grows n cs ds t h
 Ready-grows n cs ds (named x) h = h
 
-pub BodiesReady-grows : (defs : Definitions) (cs ds : List Cell) → BodiesReady defs cs → BodiesReady defs (cs ++ ds)
-BodiesReady-grows defs cs ds h x t e = Ready-grows (length defs) cs ds t (h x t e)
-
 pub IsFresh-grows : (n : ℕ) (cs ds : List Cell) (c : Cell) → IsFresh n cs c → IsFresh n (cs ++ ds) c
 IsFresh-grows n cs ds c f = record { tail = f.tail; ready = Ready-grows n cs ds (ty_of c.head) f.ready }

@@ -60,11 +60,6 @@ pub front-append : (start done more : List ℕ) (n : ℕ) → length start ≡ n
 front-append start done more n count front =
     take-append-le n done more (front_within start done n count front) ∙ front
 
-pub front-failed : (start done new : List ℕ) (n m : ℕ) → length start ≡ n → length done ≡ m → take n done ≡ start → take m new ≡ done → take n new ≡ start
-front-failed start done new n m count length front kept =
-    let within : n ≤ m = omega (arith, front_within start done n count front) in
-    sym (take-take n m new within) ∙ ap (take n) kept ∙ front
-
 module _ (names : List (List ℕ)) (start whole : List ℕ) (n : ℕ) (count : length start ≡ n) where
   pub element_step : (done new : List ℕ) (a : ℕ) (c r : Plain) (outer : List Plain) → IsWriting names start whole n done (elem tt a c r) outer → new ≡ done ++ (name_text names a ++ codes "[") → IsWriting names start whole n new c (outer ++ r ∷ [])
   element_step done new a c r outer i e = record {

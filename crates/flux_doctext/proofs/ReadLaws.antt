@@ -46,9 +46,6 @@ number_is names a t table at = table.differ (number_of names t) a t (number_held
 pub number_found : (names : List (List ℕ)) (a : ℕ) (t : List ℕ) → slice_get names a ≡ Some t → slice_get names (number_of names t) ≡ Some t
 number_found names a t at = number_held names a t at
 
-bytes_same : (t : List ℕ) → bytes_eq t t ≡ true
-bytes_same t = (bytes_eq-Decides t t).1 refl
-
 bytes_apart : (s t : List ℕ) → (s ≡ t → ⊥) → bytes_eq s t ≡ false
 bytes_apart s t differ = by (bytes_eq s t) refl
   where

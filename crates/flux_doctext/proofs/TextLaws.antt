@@ -211,30 +211,6 @@ slice_get-more [] more a l = absurd (omega arith)
 slice_get-more (n ∷ names) more zero l = refl
 slice_get-more (n ∷ names) more (suc a) l = slice_get-more names more a (omega arith)
 
-pub trees_text-more : (names more : List (List ℕ)) (v : Plain) → EachLabel (λ a. a < length names) v → trees_text (names ++ more) v ≡ trees_text names v
-trees_text-more names more nil l = refl
-trees_text-more names more (elem n a c r) l =
-    let label = ap (λ o. unwrap_or o []) (slice_get-more names more a l.0) in
-    let inside = trees_text-more names more c l.1 in
-    let others = trees_text-more names more r l.2 in
-    (λ i. label i ++ (codes "[" ++ (inside i ++ (codes "]" ++ (comma r ++ others i)))))
-trees_text-more names more (leaf n x r) l =
-    ap (λ t. literal x ++ (comma r ++ t)) (trees_text-more names more r l)
-
--- a forest's text is the same over a table with more names behind
-pub text_stable : (names more : List (List ℕ)) (v : Plain) → EachLabel (λ a. a < length names) v → text (names ++ more) v ≡ text names v
-text_stable names more nil l = refl
-text_stable names more (elem n a c r) l = trees_text-more names more (elem n a c r) l
-text_stable names more (leaf n x r) l = trees_text-more names more (leaf n x r) l
-
--- and over one that was shown a text
-pub text_stable-with_text : (names : List (List ℕ)) (t : List ℕ) (v : Plain) → EachLabel (λ a. a < length names) v → text (with_text names t) v ≡ text names v
-text_stable-with_text names t v l = by (list_any (bytes_eq t) names)
-  where
-    by : (held : Bool) → text (if held then names else names ++ t ∷ []) v ≡ text names v
-    by true = refl
-    by false = text_stable names (t ∷ []) v l
-
 -- a label stays one, too
 pub NamesLabel-more : (names more : List (List ℕ)) (a : ℕ) → NamesLabel names a → NamesLabel (names ++ more) a
 NamesLabel-more names more a l =
@@ -246,13 +222,6 @@ labels-more names more (elem n a c r) l =
     (NamesLabel-more names more a l.0, labels-more names more c l.1, labels-more names more r l.2)
 labels-more names more (leaf n x r) l = labels-more names more r l
 
-pub labels-with_text : (names : List (List ℕ)) (t : List ℕ) (v : Plain) → EachLabel (NamesLabel names) v → EachLabel (NamesLabel (with_text names t)) v
-labels-with_text names t v l = by (list_any (bytes_eq t) names)
-  where
-    by : (held : Bool) → EachLabel (NamesLabel (if held then names else names ++ t ∷ [])) v
-    by true = l
-    by false = labels-more names (t ∷ []) v l
-
 -- no text ends in a newline, whatever the names are
 
 -- it is not empty, and its last byte is no newline
@@ -261,41 +230,3 @@ record EndsWell (t : List ℕ) : Type 0 where
   last : ℕ
   split : t ≡ before ++ last ∷ []
   differs : last ≢ 10
-
-EndsWell-append : (s t : List ℕ) → EndsWell t → EndsWell (s ++ t)
-EndsWell-append s t i = record {
-  before = s ++ i.before;
-  last = i.last;
-  split = ap (λ l. s ++ l) i.split ∙ sym (append_assoc s i.before (i.last ∷ []));
-  differs = i.differs;
-}
-
-literal-EndsWell : (x : Atom) → EndsWell (literal x)
-literal-EndsWell (Truth true) = record { before = codes "tru"; last = 101; split = refl; differs = λ e. omega (arith, e) }
-literal-EndsWell (Truth false) = record { before = codes "fals"; last = 101; split = refl; differs = λ e. omega (arith, e) }
-literal-EndsWell (Text t) = record { before = quote ∷ flat_map escaped t; last = quote; split = refl; differs = λ e. omega (arith, e) }
-
--- what ends at a tree, and what ends with the trees behind it
-EndsWell-behind : (names : List (List ℕ)) (t : List ℕ) (r : Plain) → EndsWell t → (r ≢ nil → EndsWell (trees_text names r)) → EndsWell (t ++ (comma r ++ trees_text names r))
-EndsWell-behind names t nil i others = subst EndsWell (sym (append-nil t)) i
-EndsWell-behind names t (elem n a c r) i others =
-    EndsWell-append t _ (EndsWell-append (codes ",") _ (others (λ e. cc)))
-EndsWell-behind names t (leaf n x r) i others =
-    EndsWell-append t _ (EndsWell-append (codes ",") _ (others (λ e. cc)))
-
-trees_text-EndsWell : (names : List (List ℕ)) (v : Plain) → v ≢ nil → EndsWell (trees_text names v)
-trees_text-EndsWell names nil some = absurd (some refl)
-trees_text-EndsWell names (elem n a c r) some =
-    EndsWell-append (name_text names a) _ (EndsWell-append (codes "[") _ (EndsWell-append (trees_text names c) _ (EndsWell-behind names (codes "]") r (record { before = []; last = 93; split = refl; differs = λ e. omega (arith, e) }) (trees_text-EndsWell names r))))
-trees_text-EndsWell names (leaf n x r) some =
-    EndsWell-behind names (literal x) r (literal-EndsWell x) (trees_text-EndsWell names r)
-
-text-EndsWell : (names : List (List ℕ)) (v : Plain) → EndsWell (text names v)
-text-EndsWell names nil = record { before = codes "("; last = 41; split = refl; differs = λ e. omega (arith, e) }
-text-EndsWell names (elem n a c r) = trees_text-EndsWell names (elem n a c r) (λ e. cc)
-text-EndsWell names (leaf n x r) = trees_text-EndsWell names (leaf n x r) (λ e. cc)
-
-pub text-no_newline_last : (names : List (List ℕ)) (v : Plain) (front : List ℕ) → text names v ≢ front ++ 10 ∷ []
-text-no_newline_last names v front e =
-    let i = text-EndsWell names v in
-    i.differs (same_from_push i.before front i.last 10 (sym i.split ∙ e)).1

@@ -50,10 +50,6 @@ hedge_of-append (elem _ a c r) ns =
     put-join a c (join r (hedge_of ns)) _ (ap hedge_of (append_assoc (flat c) (flat r) ns) ∙ hedge_of-append c (flat r ++ ns) ∙ ap (join c) (hedge_of-append r ns))
 hedge_of-append (leaf _ x r) ns = ap (leaf tt x) (hedge_of-append r ns)
 
--- the trees f in front of the outermost ones
-before_outer : Plain → PlainDraft → PlainDraft
-before_outer f d = on_outer (join f) d
-
 before_outer-nil : (d : PlainDraft) → on_outer (join nil) d ≡ d
 before_outer-nil (done h) = refl
 before_outer-nil (begun b _ a d) = refl

@@ -98,15 +98,6 @@ one_element (elem _ a c r) z b f n l e =
     ap₂ (λ a r. elem tt a c r) label (size-zero r (omega arith))
 one_element (leaf _ x r) z b f n l e = let i : Leaf x ≡ Element b = sym (ap (λ y. y.item) f) ∙ e in cc
 
-pub one_leaf : (h : Plain) (z : Node) (y : Atom) → IsFirstNode z h → 1 ≤ size h → size h ≤ z.size → z.item ≡ Leaf y → h ≡ leaf tt y nil
-unfolding IsFirstNode
-one_leaf nil z b f n l e = absurd (omega (arith, n))
-one_leaf (elem _ a c r) z y f n l e = let i : Element a ≡ Leaf y = sym (ap (λ y. y.item) f) ∙ e in cc
-one_leaf (leaf _ x r) z y f n l e =
-    let same : x ≡ y = let i : Leaf x ≡ Leaf y = sym (ap (λ y. y.item) f) ∙ e in cc in
-    let whole : z.size ≡ 1 = ap (λ y. y.size) f in
-    ap₂ (leaf tt) same (size-zero r (omega arith))
-
 opened_nodes : (h : Plain) → drop 1 (flat h) ≡ flat (opened h)
 opened_nodes nil = refl
 opened_nodes (elem _ a c r) = sym (flat-join c r)

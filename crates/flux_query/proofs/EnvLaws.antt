@@ -15,12 +15,6 @@ use Rattle.flux_query.specs.Environments.{pair_of, environment_of, AreWhole}
 never : {P : Type 0} → (P → ⊥) → Decides false P
 never no_one = (λ e. cc, λ p. absurd (no_one p))
 
-pub same_var-Decides : (a b : Var) → Decides (same_var a b) (a ≡ b)
-same_var-Decides (Named a) (Named b) = Decides-like (a == b) (λ e. ap Named e) (λ e. cc) (Decides-eqb a b)
-same_var-Decides (Named a) (Made j) = never (λ e. cc)
-same_var-Decides (Made i) (Named b) = never (λ e. cc)
-same_var-Decides (Made i) (Made j) = Decides-like (i == j) (λ e. ap Made e) (λ e. cc) (Decides-eqb i j)
-
 environment_of-push : (bs : List Binding) (b : Binding) → environment_of (bs ++ b ∷ []) ≡ pair_of b ∷ environment_of bs
 environment_of-push bs b = simp (map-append, reverse-append)
 

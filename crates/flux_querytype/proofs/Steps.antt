@@ -20,33 +20,6 @@ most-below f n (named y) h = h y refl
 scaled : (a b : ℕ) → a ≤ b → a * 65537 ≤ b * 65537
 scaled a b h = omega (arith, h)
 
-pub steps-left : (defs : Definitions) (t u w : Ty) → t ≡ seq u w → steps defs u < steps defs t
-steps-left defs t u w e =
-    let P : Ty → Type 0 = λ t. steps defs u < steps defs t in
-    let n = rank_of defs in
-    subst P (sym e) (omega (arith, scaled (most n u) (max (most n u) (most n w)) (omega arith)))
-
-pub steps-right : (defs : Definitions) (t u w : Ty) → t ≡ seq u w → steps defs w < steps defs t
-steps-right defs t u w e =
-    let P : Ty → Type 0 = λ t. steps defs w < steps defs t in
-    let n = rank_of defs in
-    subst P (sym e) (omega (arith, scaled (most n w) (max (most n u) (most n w)) (omega arith)))
-
-pub steps-one : (defs : Definitions) (t u w : Ty) → t ≡ alt u w → steps defs u < steps defs t
-steps-one defs t u w e =
-    let P : Ty → Type 0 = λ t. steps defs u < steps defs t in
-    let n = rank_of defs in
-    subst P (sym e) (omega (arith, scaled (most n u) (max (most n u) (most n w)) (omega arith)))
-
-pub steps-other : (defs : Definitions) (t u w : Ty) → t ≡ alt u w → steps defs w < steps defs t
-steps-other defs t u w e =
-    let P : Ty → Type 0 = λ t. steps defs w < steps defs t in
-    let n = rank_of defs in
-    subst P (sym e) (omega (arith, scaled (most n w) (max (most n u) (most n w)) (omega arith)))
-
-pub steps-inside : (defs : Definitions) (t u : Ty) → t ≡ star u → steps defs u < steps defs t
-steps-inside defs t u e = let P : Ty → Type 0 = λ t. steps defs u < steps defs t in subst P (sym e) (omega arith)
-
 pub steps-body : (defs : Definitions) (t u : Ty) (x : ℕ) → IsGood defs → t ≡ named x → body_of defs x ≡ Some u → IsWithinLimits u → steps defs u < steps defs t
 steps-body defs t u x good e b limits =
     let P : Ty → Type 0 = λ t. steps defs u < steps defs t in

@@ -32,12 +32,6 @@ use Rattle.flux_querytype.proofs.Replies.{answer_carried, passed_on, from_conclu
 abbrev pub Has : Definitions → Context → calculus.Query → Outcome → Type 0
 Has defs Γ q o = Types defs (of_query Γ q) o
 
-has_same : (defs defs' : Definitions) (Γ Γ' : Context) (q : calculus.Query) (o : Outcome) → defs' ≡ defs → Γ' ≡ Γ → Has defs' Γ' q o → Has defs Γ q o
-has_same defs defs' Γ Γ' q o e f d =
-    let P : Definitions → Type 0 = λ w. Has w Γ' q o in
-    let Q : Context → Type 0 = λ w. Has defs w q o in
-    subst Q f (subst P e d)
-
 pub fault_same : (defs defs' : Definitions) (Γ Γ' : Context) (q : calculus.Query) (e : KindFault) → defs' ≡ defs → Γ' ≡ Γ → IsFault defs' (Has defs' Γ' q) e → IsFault defs (Has defs Γ q) e
 fault_same defs defs' Γ Γ' q e i j d =
     let P : Definitions → Type 0 = λ w. IsFault w (Has w Γ' q) e in

@@ -23,18 +23,3 @@ pub single-unfolded : (defs : Definitions) (x : ℕ) (t s : Ty) → body_of defs
 single-unfolded defs x t s e h =
     let p = from_name h in
     subst (λ u. Single defs u s) (some_is p.0 t (sym p.1 ∙ e)) p.2
-
-pub not_single-unfolded : (defs : Definitions) (x : ℕ) (t : Ty) → body_of defs x ≡ Some t → IsNotSingle defs t → IsNotSingle defs (named x)
-not_single-unfolded defs x t e none s h = none s (single-unfolded defs x t s e h)
-
-pub not_single-empty : (defs : Definitions) → IsNotSingle defs empty
-not_single-empty defs s h = elim h [ ]
-
-pub not_single-seq : (defs : Definitions) (t u : Ty) → IsNotSingle defs (seq t u)
-not_single-seq defs t u s h = elim h [ ]
-
-pub not_single-alt : (defs : Definitions) (t u : Ty) → IsNotSingle defs (alt t u)
-not_single-alt defs t u s h = elim h [ ]
-
-pub not_single-star : (defs : Definitions) (t : Ty) → IsNotSingle defs (star t)
-not_single-star defs t s h = elim h [ ]

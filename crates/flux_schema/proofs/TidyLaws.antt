@@ -84,28 +84,6 @@ tidied_members defs t u e = subst (SameMembers defs t) (sym e) (tidy-members def
 
 -- ---- what a tidied type names
 
-below_seq : (n : ℕ) (t u : Ty) → NamesBelow n t → NamesBelow n u → NamesBelow n (tidy_seq t u)
-below_seq n empty u p q = q
-below_seq n t empty p q = p
-below_seq n t u p q = (p, q)
-
-below_alt : (n : ℕ) (t u : Ty) (b : Bool) → NamesBelow n t → NamesBelow n u → NamesBelow n (cond b t (alt t u))
-below_alt n t u true p q = p
-below_alt n t u false p q = (p, q)
-
-below_star : (n : ℕ) (t : Ty) → NamesBelow n t → NamesBelow n (tidy_star t)
-below_star n empty p = p
-below_star n t p = p
-
-pub tidy-below : (n : ℕ) (t : Ty) → NamesBelow n t → NamesBelow n (tidy t)
-tidy-below n empty p = p
-tidy-below n (atom k) p = p
-tidy-below n (element m t) p = tidy-below n t p
-tidy-below n (seq t u) p = below_seq n (tidy t) (tidy u) (tidy-below n t p.0) (tidy-below n u p.1)
-tidy-below n (alt t u) p = below_alt n (tidy t) (tidy u) (same (tidy t) (tidy u)) (tidy-below n t p.0) (tidy-below n u p.1)
-tidy-below n (star t) p = below_star n (tidy t) (tidy-below n t p)
-tidy-below n (named x) p = p
-
 writable_seq : (n : ℕ) (defs : Definitions) (t u : Ty) → IsWritable n defs t → IsWritable n defs u → IsWritable n defs (tidy_seq t u)
 writable_seq n defs empty u p q = q
 writable_seq n defs t empty p q = p

@@ -42,7 +42,3 @@ all_fired moves q p k le below s = (
   (λ h. let f = (below s).0 h in (f.1.to, (f.1, (f.0, f.3), refl, f.4), f.5)),
   (λ h. let m = h.1 in (below s).1 (m.1.0, m.0, (let l = slice_get_within moves m.1.0 m.0 m.1.1 in omega (arith, l, le)), m.1.1, m.3, ap (has q) m.2 ∙ h.2)),
 )
-
--- where none of the moves goes to a state of the rest
-pub all_silent : (moves : List Move) (q : List Bool) (k : ℕ) → length moves ≤ k → ((i : ℕ) (m : Move) → i < k → slice_get moves i ≡ Some m → has q m.to ≡ true → ⊥) → IsSilent moves q
-all_silent moves q k le none s r (m, (i, at), to, from) on = none i m (let l = slice_get_within moves i m at in omega (arith, l, le)) at (ap (has q) to ∙ on)

@@ -43,10 +43,6 @@ forest_at-end ks ls k =
     ∙ forest_at-append (ks ++ k ∷ []) ls (length ks) (omega (arith, length-append ks (k ∷ [])))
     ∙ forest_at-last ks k
 
--- the forest of a recipe, by those of all kept profiles
-pub made_of : List Kept → Recipe → Plain
-made_of ks r = made (forests_after [] ks) r
-
 made-append : (ks ls : List Kept) (r : Recipe) → NamesEarlier (length ks) r → made (forests_after [] (ks ++ ls)) r ≡ made (forests_after [] ks) r
 made-append ks ls Nothing h = refl
 made-append ks ls (Leaf k r) h = ap (leaf tt (sample k)) (forest_at-append ks ls r h)

@@ -201,30 +201,6 @@ pub record JoinsBelow (old others new : List ℕ) (k : ℕ) : Type 0 where
   pub each : (i : ℕ) → i < k → get_or new i 0 ≡ bit_or (get_or old i 0) (get_or others i 0)
   pub rest : (i : ℕ) → k ≤ i → get_or new i 0 ≡ get_or old i 0
 
-pub joins_none : (old others : List ℕ) → JoinsBelow old others old 0
-joins_none old others = record { long = refl; each = λ i l. absurd (omega (arith, l)); rest = λ i l. refl }
-
-pub joins_next : (old others new : List ℕ) (k : ℕ) → JoinsBelow old others new k → k < length new → JoinsBelow old others (set new k (bit_or (get_or new k 0) (get_or others k 0))) (k + 1)
-joins_next old others new k before h = record {
-  long = length-set new k _ ∙ before.long;
-  each = λ i l. elim (same_or_not i k) [
-    | inl e ↦ subst (λ j. get_or (set new k (bit_or (get_or new k 0) (get_or others k 0))) j 0 ≡ bit_or (get_or old j 0) (get_or others j 0)) (sym e) (get_or-set_same new k _ 0 h ∙ ap (λ x. bit_or x (get_or others k 0)) (before.rest k (omega arith)))
-    | inr ne ↦ get_or-set_other new k i _ 0 ne ∙ before.each i (omega (arith, l, ne))
-  ];
-  rest = λ i l. get_or-set_other new k i _ 0 (λ e. omega (arith, e, l)) ∙ before.rest i (omega (arith, l));
-}
-
-pub joins_all : (old others new : List ℕ) (k : ℕ) → length new ≤ k → length old ≡ length others → JoinsBelow old others new k → Joins old others new
-joins_all old others new k le e below = record {
-  long = below.long;
-  each = λ i. elim (lt_or_le i k) [
-    | inl lt ↦ below.each i lt
-    | inr past ↦
-        get_or_past new i 0 (omega (arith, le, past))
-        ∙ sym (ap (λ x. bit_or x (get_or others i 0)) (get_or_past old i 0 (omega (arith, le, past, below.long))) ∙ ap (bit_or 0) (get_or_past others i 0 (omega (arith, le, past, below.long, e))))
-  ];
-}
-
 -- ---- sets behind references
 
 pub count_is : (ws : List ℕ) (n s : ℕ) (p : List Bool) → flags ws n ≡ p → s < length p → s < n

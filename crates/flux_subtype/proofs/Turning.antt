@@ -31,25 +31,10 @@ pub record EndsBelow (a : List State) (p : List Bool) (k : ℕ) : Type 0 where
   pub long : length p ≡ length a
   pub ends : (s : ℕ) → (has p s ≡ true) ↔ ((s < k) × (takes a s nil ≡ true))
 
-pub ends_none : (a : List State) (p : List Bool) → length p ≡ length a → ((s : ℕ) → has p s ≡ false) → EndsBelow a p 0
-ends_none a p long none = record { long = long; ends = λ s. ((λ h. absurd (let x : true ≡ false = sym h ∙ none s in cc)), (λ h. absurd (let l = h.0 in omega (arith, l)))) }
-
 takes_end : (a : List State) (k : ℕ) (b : Bool) → option_map (λ (st : State). st.ends) (slice_get a k) ≡ Some b → takes a k nil ≡ b
 takes_end [] k b e = cc
 takes_end (st ∷ a) zero b e = some_is st.ends b e
 takes_end (st ∷ a) (suc k) b e = takes_end a k b e
-
-pub ends_skip : (a : List State) (p : List Bool) (k : ℕ) (b : Bool) → EndsBelow a p k → option_map (λ (st : State). st.ends) (slice_get a k) ≡ Some b → b ≡ false → EndsBelow a p (k + 1)
-ends_skip a p k b below is off = record {
-  long = below.long;
-  ends = λ s. (
-    (λ h. let g = (below.ends s).0 h in ((let l = g.0 in omega (arith, l)), g.1)),
-    (λ h. elim (below_or_at s k h.0) [
-      | inl lt ↦ (below.ends s).1 (lt, h.1)
-      | inr same ↦ absurd (let x : true ≡ false = sym h.1 ∙ ap (λ t. takes a t nil) same ∙ takes_end a k b is ∙ off in cc)
-    ]),
-  );
-}
 
 pub ends_one : (a : List State) (p q : List Bool) (k : ℕ) (b : Bool) → EndsBelow a p k → option_map (λ (st : State). st.ends) (slice_get a k) ≡ Some b → b ≡ true → length q ≡ length p
     → ((s : ℕ) → (has q s ≡ true) ↔ ((s ≡ k) ⊎ (has p s ≡ true))) → EndsBelow a q (k + 1)
@@ -63,17 +48,6 @@ ends_one a p q k b below is on long inserts = record {
     (λ h. (inserts s).1 (elim (below_or_at s k h.0) [ inl lt ↦ inr ((below.ends s).1 (lt, h.1)) | inr same ↦ inl same ])),
   );
 }
-
-has_inside : (p : List Bool) (s : ℕ) → has p s ≡ true → s < length p
-has_inside [] s h = cc
-has_inside (b ∷ p) zero h = omega arith
-has_inside (b ∷ p) (suc s) h = (let l = has_inside p s h in omega (arith, l))
-
-pub ends_all : (a : List State) (p : List Bool) (k : ℕ) → length a ≤ k → EndsBelow a p k → IsProfile a p nil
-ends_all a p k le below s = (
-  (λ h. ((below.ends s).0 h).1),
-  (λ t. (below.ends s).1 ((let l = has_inside (profile_nil a) s t in omega (arith, l, le, length-map a (λ (st : State). st.ends))), t)),
-)
 
 -- ---- a tree and a rest
 

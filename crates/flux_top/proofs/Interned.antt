@@ -43,9 +43,6 @@ path-more names more (a ∷ path) within =
 pub within-more : (names more : List (List ℕ)) (path : List ℕ) → Within names path → Within (names ++ more) path
 within-more names more path within k d below = omega (arith, length-append names more, within k d below)
 
-pub interned_none : (names : List (List ℕ)) → AreInterned names [] []
-interned_none names = record { within = All-nil (λ a. a < length names); texts_are = refl }
-
 -- one text more
 pub interned_more : (names names' : List (List ℕ)) (path : List ℕ) (texts : List (List ℕ)) (a : ℕ) (t : List ℕ) → AreInterned names path texts → slice_get names' a ≡ Some t → names' ≡ with_text names t → AreInterned names' (path ++ a ∷ []) (texts ++ t ∷ [])
 interned_more names names' path texts a t before place added =

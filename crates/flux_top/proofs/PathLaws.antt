@@ -100,9 +100,6 @@ cut_found script path cut steps are each = record {
   line = subst (λ l. IsLine script (codes "DELETE " ++ l)) (sym (ap (join_with_byte 47) are ∙ join_with_byte-slice_split 47 path)) cut.line;
 }
 
-pub uncut : (script text : List ℕ) → ((t : List ℕ) → IsLine script t → ¬ (EndsInNewline t) → text ≡ t) → ((path : List ℕ) → text ≢ codes "DELETE " ++ path) → (steps : List (List ℕ)) → ¬ (DeletesPath script steps)
-uncut script text ended wrong steps is = wrong (join_with_byte 47 steps) (ended _ is.line (path_not_ended steps is.each))
-
 -- the texts of a slice are steps exactly where those of the list are
 pub steps_held : (texts : List (Bor (List ℕ))) → All (λ text. IsStep text.now) texts → All IsStep (map held texts)
 steps_held texts each = All-map IsStep held texts each

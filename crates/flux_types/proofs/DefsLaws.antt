@@ -13,9 +13,6 @@ pub record Follows (defs : Definitions) (t u : Ty) : Type 0 where
   pub there : (s : Ty) → Single defs u s → Single defs t s
   pub back : (s : Ty) → Single defs t s → Single defs u s
 
-pub follows_self : (defs : Definitions) (t : Ty) → Follows defs t t
-follows_self defs t = record { there = λ s h. h; back = λ s h. h }
-
 pub follows_next : (defs : Definitions) (t : Ty) (x : ℕ) (u : Ty) → Follows defs t (named x) → body_of defs x ≡ Some u → Follows defs t u
 follows_next defs t x u f e = record {
   there = λ s h. f.there s (of_name x e h);

@@ -25,10 +25,6 @@ pub length-declarations : (es : List Entry) → length (declarations_of es) ≡ 
 length-declarations [] = refl
 length-declarations (e ∷ es) = ap suc (length-declarations es)
 
-pub length-names : (ds : Declarations) → length (declared_names ds) ≡ length ds
-length-names [] = refl
-length-names (d ∷ ds) = ap suc (length-names ds)
-
 pub name_here : (es : List Entry) (i : ℕ) (e : Entry) → i < length es → e ≡ get_or es i e → slice_get (declared_names (declarations_of es)) i ≡ Some e.name
 name_here [] i e lt is = absurd (omega (arith, lt))
 name_here (f ∷ es) zero e lt is = ap (λ (a : Entry). Some a.name) (sym is)

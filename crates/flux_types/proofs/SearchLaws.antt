@@ -31,26 +31,6 @@ length-push (y ∷ xs) x = omega (arith, length-push xs x)
 
 -- ---- visits
 
-pub visits_none : (t : Ty) (marks : List Bool) (waiting : List ℕ) → ((y : ℕ) → StandsIn y t → ⊥) → Visits t marks marks waiting waiting
-visits_none t marks waiting none = record {
-  kept = λ y m. m;
-  reached = λ y s. absurd (none y s);
-  waits = λ y m. inl m;
-  still = λ y m. m;
-  only = λ y m. inl m;
-  work = refl;
-}
-
-pub visits_marked : (i : ℕ) (marks : List Bool) (waiting : List ℕ) → IsMarked marks i → Visits (named i) marks marks waiting waiting
-visits_marked i marks waiting m = record {
-  kept = λ y m. m;
-  reached = λ y s. subst (IsMarked marks) (sym s) m;
-  waits = λ y m. inl m;
-  still = λ y m. m;
-  only = λ y m. inl m;
-  work = refl;
-}
-
 pub visits_new : (i : ℕ) (marks : List Bool) (waiting waiting' : List ℕ) → i < length marks → get_or marks i false ≡ false → waiting' ≡ waiting ++ i ∷ [] → Visits (named i) marks (set marks i true) waiting waiting'
 visits_new i marks waiting waiting' lt new e = record {
   kept = λ y m. set-kept marks i y m;
