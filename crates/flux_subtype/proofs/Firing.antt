@@ -3,7 +3,7 @@ use Rattle.std.proofs.Common.{◌≡◌, ◌⊎◌, ◌↔◌, ℕ, ◌+◌, ◌
 use Rattle.std.proofs.lemmas.Option.{slice_get_within}
 use Rattle.flux_auto.specs.Takes.{has}
 use Rattle.flux_subtype.specs.declared.index.Move.{Move}
-use Rattle.flux_subtype.specs.Search.{IsSilent, Fires}
+use Rattle.flux_subtype.specs.Search.{Fires}
 use Rattle.flux_subtype.proofs.Places.{some_is, below_or_at}
 
 -- by the first k moves

@@ -10,7 +10,7 @@ use Rattle.flux_trees.specs.Hedge.{Plain, nil, elem, leaf, others}
 use Rattle.flux_schema.specs.Tidy.{same_kind}
 use Rattle.flux_auto.specs.declared.edge.Edge.{Edge}
 use Rattle.flux_auto.specs.declared.edge.Edge.TheVariants.{Atom, Elem}
-use Rattle.flux_auto.specs.Takes.{State, has, goes_by_element, goes_by_atom, profile_nil, takes}
+use Rattle.flux_auto.specs.Takes.{State, has, goes_by_element, goes_by_atom, takes}
 use Rattle.flux_subtype.specs.declared.index.Move.{Move}
 use Rattle.flux_subtype.specs.Going.{Has, Goes, IsProfile, IsDead}
 use Rattle.flux_subtype.specs.Index.{Moves, ByElement}
@@ -105,9 +105,6 @@ pub goes_takes : (a : List State) (s : ℕ) (v : Plain) (r : ℕ) → Goes a s v
 goes_takes a s nil r g h = absurd g
 goes_takes a s (elem _ n c w) r (d, (st, at, (k, is)), t) h = map_has _ a s st at (is_any _ st.edges k (Elem n d r) is (element_by n _ _ d r t h))
 goes_takes a s (leaf _ x w) r (st, at, (k, is)) h = map_has _ a s st at (is_any _ st.edges k (Atom (kind_of x) r) is (atom_by (kind_of x) _ r h))
-
-pub profile-nil : (a : List State) → IsProfile a (profile_nil a) nil
-profile-nil a s = ((λ h. h), (λ h. h))
 
 -- the moves are those by the first tree of the forest
 abbrev pub MovesOf : List State → List Move → Plain → Type 0

@@ -1,6 +1,7 @@
 pub mod Places
 pub mod SetLaws
 pub mod GoingLaws
+pub mod PartLaws
 pub mod KeptLaws
 pub mod CoverLaws
 pub mod IndexLaws

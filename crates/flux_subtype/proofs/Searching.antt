@@ -1,10 +1,9 @@
 -- The search, from its beginning to its answer.
-use Rattle.std.proofs.Common.{◌≡◌, ◌⊎◌, ℕ, zero, suc, ◌<◌, ◌≤◌, List, [], length, Bool, true, false, slice_get, refl, sym, ap, subst, ◌∙◌, inl, inr, arith}
-use Rattle.std.proofs.lemmas.List.{length-map}
+use Rattle.std.proofs.Common.{◌≡◌, ◌⊎◌, ℕ, zero, suc, ◌<◌, ◌≤◌, List, [], length, Bool, true, false, Option, Some, None, slice_get, refl, sym, subst, ◌∙◌, inl, inr, arith}
 use Rattle.flux_atom.specs.declared.atom.AtomKind.TheVariants as kind
 use Rattle.flux_trees.specs.Hedge.{Plain, nil}
 use Rattle.flux_auto.specs.declared.edge.Edge.TheVariants as edge
-use Rattle.flux_auto.specs.Takes.{State, has, takes, profile_nil}
+use Rattle.flux_auto.specs.Takes.{State, has, takes}
 use Rattle.flux_subtype.specs.declared.index.Move.{Move}
 use Rattle.flux_subtype.specs.declared.index.Index.{Index}
 use Rattle.flux_subtype.specs.declared.kept.Recipe.TheVariants.{Nothing}
@@ -13,10 +12,10 @@ use Rattle.flux_subtype.specs.declared.trees.Head.TheVariants.{Atom}
 use Rattle.flux_subtype.specs.declared.trees.Tree.{Tree}
 use Rattle.flux_subtype.specs.Going.{Has, IsProfile}
 use Rattle.flux_subtype.specs.Index.{AreWide, Indexes, ByAtom}
-use Rattle.flux_subtype.specs.Kept.{AreKept, Grows, Keeps}
-use Rattle.flux_subtype.specs.Search.{MovesBy, AreTrees, AddsTree, IsDone, IsAgainst}
+use Rattle.flux_subtype.specs.Kept.{forest_at, AreKept, Grows, Keeps}
+use Rattle.flux_subtype.specs.Part.{IsPartOf}
+use Rattle.flux_subtype.specs.Search.{IsFound, IsAnswer, MovesBy, AreTrees, AddsTree, IsDone, IsAgainst}
 use Rattle.flux_subtype.proofs.Places.{has-nil}
-use Rattle.flux_subtype.proofs.GoingLaws.{profile-nil}
 use Rattle.flux_subtype.proofs.KeptLaws.{grows-set_at, keeps_more}
 use Rattle.flux_subtype.proofs.Turning.{stands-grows}
 use Rattle.flux_subtype.proofs.CoverLaws.{all_covered, covered_right}
@@ -80,3 +79,17 @@ pub answered_none : (a : List State) (ks : List Kept) (ts : List Tree) (left rig
     → (v : Plain) → takes a left v ≡ true → takes a right v ≡ true
 answered_none a ks ts left right done seen so_far le behind none v =
     covered_right a ks left right (λ i l. none i (omega (arith, l, le, behind))) v (all_covered a ks ts done le so_far v)
+
+not_taken : (b : Bool) → (b ≡ true → ⊥) → b ≡ false
+not_taken true f = absurd (f refl)
+not_taken false f = refl
+
+-- what is found in the part answers for the whole
+pub found_answers : (a part : List State) (ks : List Kept) (left right : ℕ) (found : Option ℕ) → IsPartOf a left right part → IsFound part ks left right found → IsAnswer a ks left right found
+found_answers a part ks left right None same f = λ v t. sym (same.right v) ∙ f v (same.left v ∙ t)
+found_answers a part ks left right (Some i) same (kept, inside, (on, off)) = (
+  kept.earlier,
+  inside,
+  sym (same.left (forest_at ks i)) ∙ (kept.profiles i inside left).0 on,
+  sym (same.right (forest_at ks i)) ∙ not_taken _ (λ t. (let x : true ≡ false = sym ((kept.profiles i inside right).1 t) ∙ off in cc)),
+)

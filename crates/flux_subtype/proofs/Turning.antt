@@ -1,14 +1,13 @@
 -- What a turn of the search leaves.
 use Rattle.std.proofs.Common.{◌≡◌, ◌⊎◌, ◌↔◌, ℕ, zero, suc, ◌+◌, ◌<◌, ◌≤◌, List, [], ◌∷◌, ◌++◌, length, Bool, true, false, Some, slice_get, refl, sym, ap, subst, ◌∙◌, inl, inr, arith, get_or}
 use Rattle.std.specs.Option.{option_map}
-use Rattle.std.proofs.lemmas.List.{length-map}
 use Rattle.std.proofs.lemmas.Option.{slice_get_within}
 use Rattle.flux_atom.specs.declared.atom.AtomKind.{AtomKind}
 use Rattle.flux_atom.specs.declared.atom.AtomKind.TheVariants as kind
 use Rattle.flux_atom.specs.Atom.{kind_of}
 use Rattle.flux_trees.specs.Hedge.{nil, elem, leaf}
 use Rattle.flux_auto.specs.declared.edge.Edge.{Edge}
-use Rattle.flux_auto.specs.Takes.{State, has, takes, profile_nil}
+use Rattle.flux_auto.specs.Takes.{State, has, takes}
 use Rattle.flux_subtype.specs.declared.index.Move.{Move}
 use Rattle.flux_subtype.specs.declared.index.Group.{Group}
 use Rattle.flux_subtype.specs.declared.kept.Kept.{Kept}
@@ -16,7 +15,7 @@ use Rattle.flux_subtype.specs.declared.trees.Head.{Head}
 use Rattle.flux_subtype.specs.declared.trees.Head.TheVariants.{Atom, Elem}
 use Rattle.flux_subtype.specs.declared.trees.Tree.{Tree}
 use Rattle.flux_subtype.specs.Going.{Has, IsProfile}
-use Rattle.flux_subtype.specs.Index.{Moves, AreWide, AreWideGroups, ByAtom, ByElement, ByLinks, IndexesGroups}
+use Rattle.flux_subtype.specs.Index.{AreWide, AreWideGroups, ByAtom, ByElement, ByLinks, IndexesGroups}
 use Rattle.flux_subtype.specs.Kept.{sample, set_of, made, forests_after, forest_at, set_at, NamesEarlier, AreKept, Grows, Keeps}
 use Rattle.flux_subtype.specs.Search.{Fires, IsSilent, MovesBy, AreTrees, Stands, TreesGrow, AddsTree, IsElementOf, AddsElements, LabelsDone, Answered, AllAnswered, AnsweredBelow, recipe_of, Puts, Fills, FillsAll, IsDone, Turned}
 use Rattle.flux_subtype.proofs.Places.{read_is, has-last, has-push, has-nil, some_is, below_or_at, same_or_not, grows-refl, grows-trans, grows-length, grows-get, grows-has}
@@ -35,6 +34,18 @@ takes_end : (a : List State) (k : ℕ) (b : Bool) → option_map (λ (st : State
 takes_end [] k b e = cc
 takes_end (st ∷ a) zero b e = some_is st.ends b e
 takes_end (st ∷ a) (suc k) b e = takes_end a k b e
+
+pub ends_skip : (a : List State) (p : List Bool) (k : ℕ) (b : Bool) → EndsBelow a p k → option_map (λ (st : State). st.ends) (slice_get a k) ≡ Some b → b ≡ false → EndsBelow a p (k + 1)
+ends_skip a p k b below is off = record {
+  long = below.long;
+  ends = λ s. (
+    (λ h. let g = (below.ends s).0 h in ((let l = g.0 in omega (arith, l)), g.1)),
+    (λ h. elim (below_or_at s k h.0) [
+      | inl lt ↦ (below.ends s).1 (lt, h.1)
+      | inr same ↦ absurd (let x : true ≡ false = sym h.1 ∙ ap (λ t. takes a t nil) same ∙ takes_end a k b is ∙ off in cc)
+    ]),
+  );
+}
 
 pub ends_one : (a : List State) (p q : List Bool) (k : ℕ) (b : Bool) → EndsBelow a p k → option_map (λ (st : State). st.ends) (slice_get a k) ≡ Some b → b ≡ true → length q ≡ length p
     → ((s : ℕ) → (has q s ≡ true) ↔ ((s ≡ k) ⊎ (has p s ≡ true))) → EndsBelow a q (k + 1)

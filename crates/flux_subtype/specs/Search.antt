@@ -13,7 +13,8 @@ use Rattle.flux_subtype.specs.declared.trees.Head.TheVariants.{Atom, Elem}
 use Rattle.flux_subtype.specs.declared.trees.Tree.{Tree}
 use Rattle.flux_subtype.specs.Going.{Has, IsProfile, IsDead}
 use Rattle.flux_subtype.specs.Index.{Moves, AreWide, AreWideGroups, ByAtom, ByElement, ByLinks}
-use Rattle.flux_subtype.specs.Kept.{set_at, AreKept, Grows}
+use Rattle.flux_subtype.specs.Kept.{forest_at, set_at, AreKept, Grows}
+use Rattle.flux_subtype.specs.Witness.{NameEarlier}
 
 -- the profile of a tree and a rest with the profile q is p, where the tree makes the moves
 abbrev pub Fires : List Move → List Bool → List Bool → Type 0
@@ -118,6 +119,11 @@ abbrev pub IsAgainst : List Kept → ℕ → ℕ → ℕ → Type 0
 IsAgainst ks left right i = (has (set_at ks i) left ≡ true) × (has (set_at ks i) right ≡ false)
 
 -- none: the right state takes all that the left one takes; else a kept profile against it
+abbrev pub IsFound : List State → List Kept → ℕ → ℕ → Option ℕ → Type 0
+IsFound a ks left right None = (v : Plain) → takes a left v ≡ true → takes a right v ≡ true
+IsFound a ks left right (Some i) = AreKept a ks × (i < length ks) × IsAgainst ks left right i
+
+-- none: the right state takes all that the left one takes; else a forest that it doesn't take
 abbrev pub IsAnswer : List State → List Kept → ℕ → ℕ → Option ℕ → Type 0
 IsAnswer a ks left right None = (v : Plain) → takes a left v ≡ true → takes a right v ≡ true
-IsAnswer a ks left right (Some i) = AreKept a ks × (i < length ks) × IsAgainst ks left right i
+IsAnswer a ks left right (Some i) = NameEarlier ks × (i < length ks) × (takes a left (forest_at ks i) ≡ true) × (takes a right (forest_at ks i) ≡ false)

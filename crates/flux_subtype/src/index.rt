@@ -7,9 +7,10 @@ ghost use Rattle.flux_subtype.specs.declared.index.Group.{Group};
 ghost use Rattle.flux_subtype.specs.Going.{Has};
 ghost use Rattle.flux_subtype.specs.Index.{AreWide, AreWideLinks, IsWide, AddsMove, AddsLink, AddsEdge, AddsEdges, Indexes, Follows, FindsLink, FindsGroup};
 
+use crate::part::Part;
 use crate::set::Set;
 use flux_atom::{AtomKind, Name};
-use flux_auto::{Auto, Edge};
+use flux_auto::Edge;
 use std::alloc::{AllocError, Global};
 
 // The states that go on by a tree to one state, which takes what comes after it.
@@ -207,17 +208,17 @@ fn add_edges(
 }
 
 // The edges of an automaton, by what they go by.
-pub(crate) fn index_of(alloc: Global, auto: &Auto) -> Result<Index, AllocError>
-    ensures { IfOk result (λ index. Indexes auto.now.states index) }
+pub(crate) fn index_of(alloc: Global, part: &Part<'_>) -> Result<Index, AllocError>
+    ensures { IfOk result (λ index. Indexes part.now index) }
 {
     let mut index = Index {
         bools: Vec::new(alloc),
         texts: Vec::new(alloc),
         groups: Vec::new(alloc),
     };
-    let states = auto.states() as usize;
-    for state in 0..auto.states() {
-        add_edges(alloc, &mut index, states, state, auto.edges(state))?;
+    let states = part.states() as usize;
+    for state in 0..part.states() {
+        add_edges(alloc, &mut index, states, state, part.edges(state))?;
     }
     Ok(index)
 }

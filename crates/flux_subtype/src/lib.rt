@@ -3,6 +3,7 @@
 
 mod index;
 mod kept;
+mod part;
 mod profiles;
 mod search;
 mod set;

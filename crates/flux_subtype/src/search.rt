@@ -5,10 +5,11 @@ ghost use Rattle.flux_auto.specs.Takes.{has};
 ghost use Rattle.flux_subtype.specs.Going.{IsProfile};
 ghost use Rattle.flux_subtype.specs.Index.{AreWide, IndexesGroups};
 ghost use Rattle.flux_subtype.specs.Kept.{set_at, AreKept};
-ghost use Rattle.flux_subtype.specs.Search.{Fires, IsSilent, MovesBy, AreTrees, AnsweredBelow, Puts, Fills, FillsAll, IsDone, Turned, IsAgainst, IsAnswer, recipe_of};
+ghost use Rattle.flux_subtype.specs.Search.{Fires, IsSilent, MovesBy, AreTrees, AnsweredBelow, Puts, Fills, FillsAll, IsDone, Turned, IsAgainst, IsFound, IsAnswer, recipe_of};
 
 use crate::index::{Group, Index, Move, index_of};
 use crate::kept::{Kept, Recipe, keep};
+use crate::part::Part;
 use crate::set::Set;
 use crate::trees::{Head, Tree, add_elements, add_tree};
 use flux_atom::AtomKind;
@@ -16,13 +17,13 @@ use flux_auto::Auto;
 use std::alloc::{AllocError, Global};
 
 // The profile of the empty forest.
-fn nil_profile(alloc: Global, auto: &Auto) -> Result<Set, AllocError>
-    ensures long { IfOk result (λ set. length set ≡ length auto.now.states) }
-    ensures profile { IfOk result (λ set. IsProfile auto.now.states set nil) }
+fn nil_profile(alloc: Global, part: &Part<'_>) -> Result<Set, AllocError>
+    ensures long { IfOk result (λ set. length set ≡ length part.now) }
+    ensures profile { IfOk result (λ set. IsProfile part.now set nil) }
 {
-    let mut set = Set::none(alloc, auto.states() as usize)?;
-    for state in 0..auto.states() {
-        if auto.ends(state) {
+    let mut set = Set::none(alloc, part.states() as usize)?;
+    for state in 0..part.states() {
+        if part.ends(state) {
             set.insert(state);
         }
     }
@@ -42,12 +43,12 @@ fn is_silent(moves: &[Move], rest: &Set) -> bool
 }
 
 // The profile of a tree of these moves and a rest with the profile.
-fn fired(alloc: Global, auto: &Auto, moves: &[Move], rest: &Set) -> Result<Set, AllocError>
-    requires { AreWide (length auto.now.states) moves.now }
-    ensures long { IfOk result (λ set. length set ≡ length auto.now.states) }
+fn fired(alloc: Global, part: &Part<'_>, moves: &[Move], rest: &Set) -> Result<Set, AllocError>
+    requires { AreWide (length part.now) moves.now }
+    ensures long { IfOk result (λ set. length set ≡ length part.now) }
     ensures fires { IfOk result (λ set. Fires moves.now rest.now set) }
 {
-    let mut set = Set::none(alloc, auto.states() as usize)?;
+    let mut set = Set::none(alloc, part.states() as usize)?;
     for index in 0..moves.len() {
         let step = &moves[index];
         if rest.has(step.to) {
@@ -69,22 +70,22 @@ fn recipe(head: Head, rest: usize) -> Recipe
 // Keeps the profile of a tree and a rest, if some state takes them. Tells its place, or the guess.
 fn put(
     alloc: Global,
-    auto: &Auto,
+    part: &Part<'_>,
     kept: &mut Vec<Kept>,
     tree: &Tree,
     rest: usize,
     guess: usize,
 ) -> Result<usize, AllocError>
-    requires kept { AreKept auto.now.states kept.old.items }
-    requires tree { MovesBy auto.now.states kept.old.items tree.now.head tree.now.moves.items }
-    requires wide { AreWide (length auto.now.states) tree.now.moves.items }
+    requires kept { AreKept part.now kept.old.items }
+    requires tree { MovesBy part.now kept.old.items tree.now.head tree.now.moves.items }
+    requires wide { AreWide (length part.now) tree.now.moves.items }
     requires rest { rest < length kept.old.items }
-    ensures { IfOk result (λ _. Puts auto.now.states kept.old.items kept.new.items tree.now.moves.items (set_at kept.old.items rest)) }
+    ensures { IfOk result (λ _. Puts part.now kept.old.items kept.new.items tree.now.moves.items (set_at kept.old.items rest)) }
 {
     if is_silent(&tree.moves, &kept[rest].set) {
         return Ok(guess);
     }
-    let set = fired(alloc, auto, &tree.moves, &kept[rest].set)?;
+    let set = fired(alloc, part, &tree.moves, &kept[rest].set)?;
     let place = keep(kept, set, recipe(tree.head, rest), guess)?;
     Ok(place)
 }
@@ -92,23 +93,23 @@ fn put(
 // Keeps the profiles of a tree before each of a range of profiles, and tells the last one's place.
 fn fill(
     alloc: Global,
-    auto: &Auto,
+    part: &Part<'_>,
     kept: &mut Vec<Kept>,
     tree: &Tree,
     from: usize,
     to: usize,
     guess: usize,
 ) -> Result<usize, AllocError>
-    requires kept { AreKept auto.now.states kept.old.items }
-    requires tree { MovesBy auto.now.states kept.old.items tree.now.head tree.now.moves.items }
-    requires wide { AreWide (length auto.now.states) tree.now.moves.items }
+    requires kept { AreKept part.now kept.old.items }
+    requires tree { MovesBy part.now kept.old.items tree.now.head tree.now.moves.items }
+    requires wide { AreWide (length part.now) tree.now.moves.items }
     requires from { from ≤ to }
     requires to { to ≤ length kept.old.items }
-    ensures { IfOk result (λ _. Fills auto.now.states kept.old.items kept.new.items tree.now.moves.items from to) }
+    ensures { IfOk result (λ _. Fills part.now kept.old.items kept.new.items tree.now.moves.items from to) }
 {
     let mut place = guess;
     for rest in from..to {
-        place = put(alloc, auto, kept, tree, rest, place)?;
+        place = put(alloc, part, kept, tree, rest, place)?;
     }
     Ok(place)
 }
@@ -131,23 +132,23 @@ fn set_last(lasts: &mut Vec<usize>, index: usize, place: usize) -> Result<(), Al
 // there before and of earlier profiles are kept. Of each tree it notes where its profile is.
 fn fill_all(
     alloc: Global,
-    auto: &Auto,
+    part: &Part<'_>,
     kept: &mut Vec<Kept>,
     trees: &[Tree],
     lasts: &mut Vec<usize>,
     before: usize,
     done: usize,
 ) -> Result<(), AllocError>
-    requires kept { AreKept auto.now.states kept.old.items }
-    requires trees { AreTrees auto.now.states kept.old.items trees.now }
+    requires kept { AreKept part.now kept.old.items }
+    requires trees { AreTrees part.now kept.old.items trees.now }
     requires done { done < length kept.old.items }
     requires answered { AnsweredBelow kept.old.items trees.now before done }
-    ensures { IfOk result (λ _. FillsAll auto.now.states kept.old.items kept.new.items trees.now done (length trees.now)) }
+    ensures { IfOk result (λ _. FillsAll part.now kept.old.items kept.new.items trees.now done (length trees.now)) }
 {
     for index in 0..trees.len() {
         let from = if index < before { done } else { 0 };
         let guess = last_of(lasts, index);
-        let last = fill(alloc, auto, kept, &trees[index], from, done + 1, guess)?;
+        let last = fill(alloc, part, kept, &trees[index], from, done + 1, guess)?;
         set_last(lasts, index, last)?;
     }
     Ok(())
@@ -156,21 +157,21 @@ fn fill_all(
 // Takes up a profile: as the content of elements, and behind every tree.
 fn turn(
     alloc: Global,
-    auto: &Auto,
+    part: &Part<'_>,
     groups: &[Group],
     kept: &mut Vec<Kept>,
     trees: &mut Vec<Tree>,
     lasts: &mut Vec<usize>,
     done: usize,
 ) -> Result<(), AllocError>
-    requires so_far { IsDone auto.now.states kept.old.items trees.old.items done }
-    requires groups { IndexesGroups auto.now.states groups.now }
+    requires so_far { IsDone part.now kept.old.items trees.old.items done }
+    requires groups { IndexesGroups part.now groups.now }
     requires done { done < length kept.old.items }
-    ensures { IfOk result (λ _. Turned auto.now.states kept.old.items kept.new.items trees.new.items done) }
+    ensures { IfOk result (λ _. Turned part.now kept.old.items kept.new.items trees.new.items done) }
 {
     let before = trees.len();
     add_elements(alloc, groups, &kept[done].set, done, trees)?;
-    fill_all(alloc, auto, kept, trees, lasts, before, done)?;
+    fill_all(alloc, part, kept, trees, lasts, before, done)?;
     Ok(())
 }
 
@@ -197,16 +198,16 @@ fn against(kept: &[Kept], from: usize, left: u64, right: u64) -> Option<usize>
 // Takes up the profiles one after another, until one is against the inclusion or none is left.
 fn saturate(
     alloc: Global,
-    auto: &Auto,
+    part: &Part<'_>,
     groups: &[Group],
     left: u64,
     right: u64,
     kept: &mut Vec<Kept>,
     trees: &mut Vec<Tree>,
 ) -> Result<Option<usize>, AllocError>
-    requires begun { IsDone auto.now.states kept.old.items trees.old.items 0 }
-    requires groups { IndexesGroups auto.now.states groups.now }
-    ensures { IfOk result (IsAnswer auto.now.states kept.new.items left right) }
+    requires begun { IsDone part.now kept.old.items trees.old.items 0 }
+    requires groups { IndexesGroups part.now groups.now }
+    ensures { IfOk result (IsFound part.now kept.new.items left right) }
 {
     let mut lasts = Vec::new(alloc);
     let mut done = 0;
@@ -216,7 +217,7 @@ fn saturate(
             return Ok(Some(index));
         }
         seen = kept.len();
-        turn(alloc, auto, groups, kept, trees, &mut lasts, done)?;
+        turn(alloc, part, groups, kept, trees, &mut lasts, done)?;
         done += 1;
     }
     Ok(None)
@@ -230,17 +231,21 @@ pub(crate) fn search(
     right: u64,
     kept: &mut Vec<Kept>,
 ) -> Result<Option<usize>, AllocError>
-    requires { kept.old.items ≡ [] }
+    requires nothing { kept.old.items ≡ [] }
+    requires left { left < length auto.now.states }
+    requires right { right < length auto.now.states }
     ensures { IfOk result (IsAnswer auto.now.states kept.new.items left right) }
 {
+    let part = Part::of(alloc, auto, left, right)?;
     let Index {
         bools,
         texts,
         groups,
-    } = index_of(alloc, auto)?;
+    } = index_of(alloc, &part)?;
     let mut trees = Vec::new(alloc);
     add_tree(&mut trees, Head::Atom(AtomKind::Bool), bools)?;
     add_tree(&mut trees, Head::Atom(AtomKind::Text), texts)?;
-    keep(kept, nil_profile(alloc, auto)?, Recipe::Nothing, 0)?;
-    saturate(alloc, auto, &groups, left, right, kept, &mut trees)
+    keep(kept, nil_profile(alloc, &part)?, Recipe::Nothing, 0)?;
+    let found = saturate(alloc, &part, &groups, left, right, kept, &mut trees)?;
+    Ok(found)
 }

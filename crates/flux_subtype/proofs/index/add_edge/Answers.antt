@@ -1,10 +1,8 @@
-use Rattle.std.proofs.Common.{◌∙◌, refl, sym, ap, subst, arith}
+use Rattle.std.proofs.Common.{refl, sym, subst, arith}
 use Rattle.std.proofs.lemmas.Option.{slice_get_within}
-use Rattle.flux_atom.specs.declared.atom.AtomKind.TheVariants as kind
-use Rattle.flux_auto.specs.declared.edge.Edge.TheVariants.{Atom}
 use Rattle.flux_subtype.specs.Index.{AddsEdge}
 use Rattle.flux_subtype.proofs.Places.{read_is}
-use Rattle.flux_subtype.proofs.IndexLaws.{adds_bool, adds_text, adds_link}
+use Rattle.flux_subtype.proofs.IndexLaws.{adds_link}
 use Rattle.flux_subtype.proofs.index.add_edge.Goals as goal
 
 pub index_mut-requires : goal.index_mut-requires

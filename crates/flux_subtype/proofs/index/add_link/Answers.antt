@@ -1,4 +1,4 @@
-use Rattle.std.proofs.Common.{◌≡◌, refl, slice_get, Some}
+use Rattle.std.proofs.Common.{refl}
 use Rattle.std.proofs.lemmas.Option.{slice_get_within}
 use Rattle.flux_subtype.proofs.Places.{read_is}
 use Rattle.flux_subtype.proofs.IndexLaws.{link_more}

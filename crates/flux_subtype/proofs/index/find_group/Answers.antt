@@ -1,4 +1,4 @@
-use Rattle.std.proofs.Common.{◌≡◌, ◌∙◌, ap, sym, subst, refl, length, slice_get, Some, arith}
+use Rattle.std.proofs.Common.{◌≡◌, ◌∙◌, ap, sym, subst, refl, length, slice_get, arith}
 use Rattle.flux_subtype.specs.Going.{Has}
 use Rattle.flux_subtype.proofs.IndexLaws.{group_here, group_new}
 use Rattle.flux_subtype.proofs.index.find_group.Goals as goal

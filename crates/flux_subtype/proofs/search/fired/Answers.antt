@@ -5,7 +5,7 @@ use Rattle.flux_subtype.proofs.search.fired.Goals as goal
 use Rattle.flux_subtype.proofs.search.fired.Goals.{then-has, else-has}
 
 pub loop-index-init : goal.loop-index-init
-loop-index-init c = record { long = c.in_ok-set.ensures.long ∙ c.states.ensures.count; fires = none_fired _ _ _ c.in_ok-set.ensures.none }
+loop-index-init c = record { long = c.in_ok-set.ensures.long ∙ c.states.ensures; fires = none_fired _ _ _ c.in_ok-set.ensures.none }
 
 pub loop-index-preserved : goal.loop-index-preserved
 loop-index-preserved c =

@@ -5,7 +5,7 @@ use Rattle.flux_subtype.proofs.Searching.{next_seen, answered_none}
 use Rattle.flux_subtype.proofs.search.saturate.Goals as goal
 
 pub loop-done-smaller : goal.loop-done-smaller
-loop-done-smaller c = omega (arith, few_kept c.args.auto.now.states c.loop-done.kept.items c.loop-done.invariant.so_far.kept)
+loop-done-smaller c = omega (arith, few_kept c.args.part.now c.loop-done.kept.items c.loop-done.invariant.so_far.kept)
 
 pub loop-done-preserved : goal.loop-done-preserved
 loop-done-preserved c = record {

@@ -4,11 +4,11 @@ use Rattle.flux_subtype.proofs.search.saturate.Given as goal
 
 abbrev pub invariant-loop-done : goal.invariant-loop-done
 invariant-loop-done l = record {
-  so_far : IsDone l.auto'.states l.kept.items l.trees.items l.done;
+  so_far : IsDone l.part l.kept.items l.trees.items l.done;
   behind : l.done ≤ l.seen;
   there : l.seen ≤ length l.kept.items;
   none : (i : ℕ) → i < l.seen → IsAgainst l.kept.items l.left l.right i → ⊥;
 }
 
 abbrev pub decreases-loop-done : goal.decreases-loop-done
-decreases-loop-done l = 2 ^ length l.auto'.states - l.done
+decreases-loop-done l = 2 ^ length l.part - l.done

@@ -6,7 +6,7 @@ use Rattle.flux_subtype.proofs.search.turn.Goals as goal
 pub fill_all-requires-clause-trees : goal.fill_all-requires-clause-trees
 fill_all-requires-clause-trees c =
     let adds = added_at c.args.groups.now c.args.kept.now.items c.args.done c.index.result.now c.index.result.now c.index.result.now.set _ _ c.requires.done c.index.ensures refl c.in_ok-add_elements.ensures in
-    subst (AreTrees c.args.auto.now.states c.args.kept.now.items) (sym c.deref.ensures.value)
+    subst (AreTrees c.args.part.now c.args.kept.now.items) (sym c.deref.ensures.value)
     (added_trees _ _ _ _ _ _ c.requires.groups c.requires.done c.requires.so_far.trees adds)
 
 pub fill_all-requires-clause-answered : goal.fill_all-requires-clause-answered
@@ -20,4 +20,4 @@ pub returns : goal.returns
 returns c =
     let adds = added_at c.args.groups.now c.args.kept.now.items c.args.done c.index.result.now c.index.result.now c.index.result.now.set _ _ c.requires.done c.index.ensures refl c.in_ok-add_elements.ensures in
     turned _ _ _ _ _ _ _ c.requires.groups c.requires.done c.requires.so_far adds
-    (subst (λ ts. FillsAll c.args.auto.now.states c.args.kept.now.items c.fill_all.new.kept.items ts c.args.done (length ts)) c.deref.ensures.value c.in_ok-fill_all.ensures)
+    (subst (λ ts. FillsAll c.args.part.now c.args.kept.now.items c.fill_all.new.kept.items ts c.args.done (length ts)) c.deref.ensures.value c.in_ok-fill_all.ensures)

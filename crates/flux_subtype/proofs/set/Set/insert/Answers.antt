@@ -1,6 +1,5 @@
-use Rattle.std.proofs.Common.{◌∙◌, sym, ap, length, arith, subst, inr, inl}
-use Rattle.flux_subtype.specs.Set.{IsPacked}
-use Rattle.flux_subtype.proofs.SetLaws.{length-flags, word_inside, word_at, count_is, insert_packed, insert_has}
+use Rattle.std.proofs.Common.{◌∙◌, sym, ap, length, arith}
+use Rattle.flux_subtype.proofs.SetLaws.{length-flags, word_inside, count_is, insert_packed, insert_has}
 use Rattle.flux_subtype.proofs.set.Set.insert.Goals as goal
 
 pub index_mut-requires : goal.index_mut-requires

@@ -1,4 +1,4 @@
-use Rattle.std.proofs.Common.{◌∙◌, sym, ap, length, arith, subst}
+use Rattle.std.proofs.Common.{◌∙◌, ap}
 use Rattle.flux_subtype.proofs.SetLaws.{length-flags, has-zeros}
 use Rattle.flux_auto.specs.Takes.{has}
 use Rattle.flux_subtype.specs.Set.{flags}
