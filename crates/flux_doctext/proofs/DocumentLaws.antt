@@ -1,10 +1,12 @@
 -- What a reader has read, from the beginning of the text to its end.
-use Rattle.std.proofs.Common.{◌≡◌, ℕ, ◌+◌, ◌-◌, ◌<◌, ◌≤◌, false, List, [], ◌∷◌, ◌++◌, length, take, drop, get_or, Option, Some, None, refl, sym, ap, subst, ◌∙◌, append_assoc, arith}
+use Rattle.std.proofs.Common.{◌≡◌, ◌⊎◌, ℕ, ◌+◌, ◌-◌, ◌<◌, ◌≤◌, true, false, List, [], ◌∷◌, ◌++◌, length, take, drop, get_or, Option, Some, None, refl, sym, ap, subst, ◌∙◌, inl, inr, append_assoc, arith, string_bytes}
 use Rattle.std.proofs.lemmas.Bool.{false≢true}
 use Rattle.std.proofs.Math.Seq.{take-add}
+use Rattle.std.specs.List.{AllPass}
+use Rattle.std.proofs.lemmas.List.Elements.{All-cons, All-head, All-tail}
 use Rattle.std.proofs.lemmas.List.{append-nil, take-append-drop, take-take, take_more, take_all, length-drop}
 use Rattle.flux_atom.specs.declared.atom.Atom.{Atom}
-use Rattle.flux_atom.specs.Names.{IsTable}
+use Rattle.flux_atom.specs.Names.{continues_name, IsName, IsTable}
 use Rattle.flux_atom.specs.TextSteps.{TextStep, on, closes, misfits, TextRead, text_step, no_text, read_on, and_read as and_text, read_text}
 use Rattle.flux_atom.proofs.TextLaws.{read_then}
 use Rattle.flux_trees.specs.Hedge.{Plain, nil, leaf}
@@ -15,7 +17,9 @@ use Rattle.flux_doctext.specs.declared.reader.State.TheVariants.{Content, Tree, 
 use Rattle.flux_doctext.specs.Spells.{Spelled, whole, some, Spells, IsViable}
 use Rattle.flux_doctext.specs.Labels.{learnt}
 use Rattle.flux_doctext.specs.Documents.{IsDocument, IsNoDocument}
-use Rattle.flux_doctext.specs.Reading.{Shape, content, next, name, label, opened, closed, string, behind, Event, push, truth_of, step, string_step, end_named, end_step, PlainDraft, draft_after, names_after, end_fits}
+use Rattle.flux_doctext.specs.Reading.{Shape, content, next, name, label, opened, closed, string, behind, Event, push, truth_of, sign_of, step, name_step, string_step, end_named, end_step, PlainDraft, draft_after, names_after, end_fits}
+use Rattle.flux_doctext.specs.declared.sign.Sign.TheVariants.{Letter, Digit}
+use Rattle.flux_doctext.proofs.Signs.{named_sign}
 use Rattle.flux_doctext.proofs.Runs.{and_fits, fits}
 use Rattle.flux_doctext.specs.Steps.{shape_of, IsSound, IsTaken, IsEnded, Passes}
 use Rattle.flux_doctext.proofs.ReadLaws.{spelled_fits, depth-draft_after}
@@ -82,6 +86,50 @@ reader_passes old names r s run bytes d i e = record {
   fitted = λ rest. ap (fits content 0) (append_assoc bytes run rest) ∙ i.fitted (run ++ rest) ∙ fits_run r s run rest (depth d) e;
   learns = i.learns;
 }
+
+-- a byte that tells nothing
+reader_on : (old names : List (List ℕ)) (s u : Shape) (b : ℕ) (bytes : List ℕ) (d : PlainDraft) → IsReader old names s bytes d → step s (depth d) b ≡ Some (u, []) → IsReader old names u (bytes ++ b ∷ []) d
+reader_on old names s u b bytes d i fits_here = record {
+  table = i.table;
+  is_read = subst (IsKept names d (bytes ++ b ∷ [])) fits_here (step_kept names d bytes b s i.is_read);
+  fitted = λ rest. ap (fits content 0) (append_assoc bytes (b ∷ []) rest) ∙ i.fitted (b ∷ rest) ∙ ap (λ o. and_fits o (depth d) (λ v m. fits v m rest)) fits_here;
+  learns = learnt_kept old names names s u bytes d [] (depth d) b i.is_read i.learns fits_here refl;
+}
+
+-- a run of a name
+reader_named : (old names : List (List ℕ)) (text run bytes : List ℕ) (d : PlainDraft) → IsReader old names (name text) bytes d → AllPass continues_name run → IsReader old names (name (text ++ run)) (bytes ++ run) d
+reader_named old names text [] bytes d i all = subst (λ l. IsReader old names (name l) (bytes ++ []) d) (sym (append-nil text)) (subst (λ l. IsReader old names (name text) l d) (sym (append-nil bytes)) i)
+reader_named old names text (b ∷ run) bytes d i all =
+    subst (λ l. IsReader old names (name l) (bytes ++ b ∷ run) d) (append_assoc text (b ∷ []) run)
+    (subst (λ l. IsReader old names (name ((text ++ b ∷ []) ++ run)) l d) (append_assoc bytes (b ∷ []) run)
+    (reader_named old names (text ++ b ∷ []) run (bytes ++ b ∷ []) d (by (named_sign b (All-head (λ x. continues_name x ≡ true) b run all))) (All-tail (λ x. continues_name x ≡ true) b run all)))
+  where
+    by : (sign_of b ≡ Letter) ⊎ (sign_of b ≡ Digit) → IsReader old names (name (text ++ b ∷ [])) (bytes ++ b ∷ []) d
+    by (inl e) = reader_on old names (name text) (name (text ++ b ∷ [])) b bytes d i (ap (name_step text (depth d) b) e)
+    by (inr e) = reader_on old names (name text) (name (text ++ b ∷ [])) b bytes d i (ap (name_step text (depth d) b) e)
+
+-- a byte more that goes on with a name
+pub named_next : (text : List ℕ) (start more bytes : List ℕ) (i : ℕ) → i < length bytes → continues_name (get_or bytes i 0) ≡ true → AllPass continues_name (take i bytes) → text ≡ start ++ take i bytes → more ≡ text ++ get_or bytes i 0 ∷ []
+    → AllPass continues_name (take (i + 1) bytes) × (more ≡ start ++ take (i + 1) bytes)
+named_next text start more bytes i below goes_on all is grown =
+    let b = get_or bytes i 0 in
+    let here : take (i + 1) bytes ≡ take i bytes ++ b ∷ [] = take_more bytes i 0 below in (
+      subst (AllPass continues_name) (sym here) (all_and (take i bytes) b all goes_on),
+      grown ∙ ap (λ l. l ++ b ∷ []) is ∙ append_assoc start (take i bytes) (b ∷ []) ∙ ap (λ l. start ++ l) (sym here),
+    )
+  where
+    all_and : (run : List ℕ) (c : ℕ) → AllPass continues_name run → continues_name c ≡ true → AllPass continues_name (run ++ c ∷ [])
+    all_and [] c all e = All-cons (λ x. continues_name x ≡ true) c [] e all
+    all_and (x ∷ run) c all e = All-cons (λ y. continues_name y ≡ true) x (run ++ c ∷ []) (All-head (λ y. continues_name y ≡ true) x run all) (all_and run c (All-tail (λ y. continues_name y ≡ true) x run all) e)
+
+-- a name that goes on is a name
+longer_name : (text run : List ℕ) → IsName text → AllPass continues_name run → IsName (text ++ run)
+longer_name [] run is all = absurd is
+longer_name (b ∷ text) run is all = (is.0, both text run is.1 all)
+  where
+    both : (text run : List ℕ) → AllPass continues_name text → AllPass continues_name run → AllPass continues_name (text ++ run)
+    both [] run one two = two
+    both (c ∷ text) run one two = All-cons (λ x. continues_name x ≡ true) c (text ++ run) (All-head (λ x. continues_name x ≡ true) c text one) (both text run (All-tail (λ x. continues_name x ≡ true) c text one) two)
 
 -- the bytes in front of more, and those behind them
 front_of : (bytes : List ℕ) (i m : ℕ) → i < m → m ≤ length bytes → take m bytes ≡ take i bytes ++ (get_or bytes i 0 ∷ drop (i + 1) (take m bytes))
@@ -198,7 +246,20 @@ module _ (old names : List (List ℕ)) (bytes : List ℕ) (i n : ℕ) (d : Plain
   })
   passed_over Content new has p = unpassed Content new has p
   passed_over Tree new has p = unpassed Tree new has p
-  passed_over (Name text) new has p = unpassed (Name text) new has p
+  passed_over (Name text) (Name longer) has (few, (all, is)) = record {
+    reader =
+        subst (λ l. IsReader old names (name (string_bytes longer)) l d) (sym (take-add i n bytes))
+        (subst (λ l. IsReader old names (name l) (take i bytes ++ take n (drop i bytes)) d) (sym is) (reader_named old names (string_bytes text) (take n (drop i bytes)) (take i bytes) d has.reader all));
+    sound = subst IsName (sym is) (longer_name (string_bytes text) (take n (drop i bytes)) has.sound all);
+    within = omega (arith, length-drop i bytes, few, has.within);
+  }
+  passed_over (Name text) Content has p = absurd p.1
+  passed_over (Name text) Tree has p = absurd p.1
+  passed_over (Name text) (Label a) has p = absurd p.1
+  passed_over (Name text) Opened has p = absurd p.1
+  passed_over (Name text) Closed has p = absurd p.1
+  passed_over (Name text) (Text r) has p = absurd p.1
+  passed_over (Name text) Behind has p = absurd p.1
   passed_over (Label a) new has p = unpassed (Label a) new has p
   passed_over Opened new has p = unpassed Opened new has p
   passed_over Closed new has p = unpassed Closed new has p

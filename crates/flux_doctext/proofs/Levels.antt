@@ -1,6 +1,6 @@
 -- What is left to write, where elements are open.
 use Rattle.std.proofs.Common.{◌≡◌, ℕ, ◌+◌, ◌*◌, ◌<◌, ◌≤◌, List, [], ◌∷◌, ◌++◌, length, take, codes, sym, ap, ◌∙◌, append_assoc, arith}
-use Rattle.std.proofs.lemmas.List.{append-nil, take-take, take-append-le, length-take}
+use Rattle.std.proofs.lemmas.List.{append-nil, take-append-le, length-take}
 use Rattle.flux_atom.specs.declared.atom.Atom.{Atom}
 use Rattle.flux_atom.specs.Literal.{literal}
 use Rattle.flux_trees.specs.Hedge.{Plain, nil, elem, leaf, size}

@@ -1,5 +1,5 @@
 -- What a sign says of its byte.
-use Rattle.std.proofs.Common.{◌≡◌, ℕ, Bool, true, false, ◌==◌, List, [], ◌∷◌, ◌++◌, ◌⊎◌, inl, inr, if◌then◌else◌, refl, sym, ◌∙◌, arith}
+use Rattle.std.proofs.Common.{◌≡◌, ℕ, ◌<◌, Bool, true, false, ◌==◌, List, [], ◌∷◌, ◌++◌, ◌⊎◌, inl, inr, if◌then◌else◌, refl, sym, ◌∙◌, arith}
 use Rattle.std.proofs.lemmas.Bool.{eqb-true, false≢true}
 use Rattle.std.proofs.lemmas.Bool.Decides.{nat_tests}
 use Rattle.flux_atom.specs.Names.{begins_name, continues_name, EndsName}
@@ -102,3 +102,7 @@ pub spaces_end : (u more : List ℕ) → IsSpace u → EndsName more → EndsNam
 spaces_end [] more space ends = ends
 spaces_end (b ∷ u) more space ends =
     space_ends b (All-head (λ x. is_space x ≡ true) b u space)
+
+-- bytes of names are ASCII
+pub continues_ascii : (b : ℕ) → continues_name b ≡ true → b < 128
+continues_ascii b e = grind (arith, nat_tests)

@@ -1,6 +1,7 @@
 -- What the states of the reader stand for, and what its steps do.
 use Rattle.std.specs.Prelude.{◌≡◌, ℕ, ◌+◌, ◌<◌, ◌≤◌, Bool, true, false, List, ◌++◌, length, take, Option, Some, None, string_bytes}
-use Rattle.flux_atom.specs.Names.{name_text, IsName, IsTable}
+use Rattle.std.specs.List.{AllPass}
+use Rattle.flux_atom.specs.Names.{continues_name, name_text, IsName, IsTable}
 use Rattle.flux_atom.specs.TextSteps.{TextRead, no_text, read_text}
 use Rattle.flux_trees.specs.Draft.{depth}
 use Rattle.flux_doctext.specs.declared.reader.State.{State}
@@ -56,7 +57,13 @@ abbrev pub Ends : Option (List Event) → PlainDraft → PlainDraft → Bool →
 Ends end d new true = IsEnded end d new
 Ends end d new false = end_fits end (depth d) ≡ false
 
--- a run of bytes is passed: in a string it goes on behind them, and elsewhere there are none
+-- the name is longer by the bytes, which go on with it
+abbrev pub IsLonger : List ℕ → List ℕ → State → Type 0
+IsLonger text run (Name longer) = AllPass continues_name run × (string_bytes longer ≡ text ++ run)
+IsLonger text run _ = ⊥
+
+-- a run of bytes is passed: a name or a string goes on behind them, and elsewhere there are none
 abbrev pub Passes : State → List ℕ → ℕ → State → Type 0
+Passes (Name text) bytes n new = (n ≤ length bytes) × IsLonger (string_bytes text) (take n bytes) new
 Passes (Text r) bytes n new = (n ≤ length bytes) × (s : TextRead) × (read_text r (take n bytes) ≡ Some s) × (new ≡ Text s)
 Passes state bytes n new = (n ≡ 0) × (new ≡ state)

@@ -1,13 +1,14 @@
 // A reader of documents, byte by byte.
-ghost use Rattle.std.specs.Prelude.{◌≡◌, ◌+◌, ◌-◌, ◌^◌, ◌<◌, ℕ, List, [], ◌∷◌, ◌++◌, Some, length, IfOk, IfSome, IfNone, string_bytes};
-ghost use Rattle.flux_atom.specs.Names.{name_text, IsName, IsTable};
+ghost use Rattle.std.specs.Prelude.{◌≡◌, ◌+◌, ◌-◌, ◌^◌, ◌<◌, ◌≤◌, ℕ, List, [], ◌∷◌, ◌++◌, Some, length, take, IfOk, IfSome, IfNone, string_bytes};
+ghost use Rattle.std.specs.List.{AllPass};
+ghost use Rattle.flux_atom.specs.Names.{continues_name, name_text, IsName, IsTable};
 ghost use Rattle.flux_atom.specs.TextSteps.{no_text, read_text, text_step};
 ghost use Rattle.flux_trees.specs.Draft.{Draft, depth};
 ghost use Rattle.flux_doctext.specs.Reading.{behind_step, close_step, closed_step, content_step, end_named, end_step, label_step, name_step, named_step, opened_step, sign_of, step, string_step, tree_step, truth_of};
 ghost use Rattle.flux_doctext.specs.Steps.{shape_of, Ends, Follows, HasGrown, IsSound, Passes};
 
 use crate::sign::Sign;
-use flux_atom::{Atom, Name, Names, Taken, TextReader};
+use flux_atom::{Atom, Name, Names, Taken, TextReader, can_continue};
 use flux_forest::Forest;
 use std::alloc::{AllocError, Global};
 
@@ -97,8 +98,16 @@ fn longer(mut text: String, byte: u8) -> Result<String, AllocError>
     requires { byte < 128 }
     ensures { IfOk result (λ longer. string_bytes longer ≡ string_bytes text ++ byte ∷ []) }
 {
-    text.push(char::from(byte))?;
+    push_byte(&mut text, byte)?;
     Ok(text)
+}
+
+fn push_byte(text: &mut String, byte: u8) -> Result<(), AllocError>
+    requires { byte < 128 }
+    ensures { IfOk result (λ _. string_bytes text.new ≡ string_bytes text.old ++ byte ∷ []) }
+{
+    text.push(char::from(byte))?;
+    Ok(())
 }
 
 fn in_name(
@@ -217,15 +226,31 @@ fn end_element(forest: &mut Forest) -> Option<State>
     Some(State::Behind)
 }
 
-// In a string, the bytes in front that stand for themselves: it goes on behind them. Returns how
-// many they are.
+// The bytes in front that a name goes on with, or that stand for themselves in a string: it goes
+// on behind them. Returns how many they are.
 pub(crate) fn pass_plain(state: &mut State, bytes: &[u8]) -> Result<usize, AllocError>
     ensures { IfOk result (λ count. Passes state.old bytes.now count state.new) }
 {
     match state {
+        State::Name(text) => pass_name(text, bytes),
         State::Text(text) => text.take_plain(bytes),
         _ => Ok(0),
     }
+}
+
+fn pass_name(text: &mut String, bytes: &[u8]) -> Result<usize, AllocError>
+    ensures within { IfOk result (λ count. count ≤ length bytes.now) }
+    ensures name { IfOk result (λ count. AllPass continues_name (take count bytes.now)) }
+    ensures longer { IfOk result (λ count. string_bytes text.new ≡ string_bytes text.old ++ take count bytes.now) }
+{
+    for place in 0..bytes.len() {
+        let byte = bytes[place];
+        if !can_continue(byte) {
+            return Ok(place);
+        }
+        push_byte(text, byte)?;
+    }
+    Ok(bytes.len())
 }
 
 // Whether the text may end here, where the last atom may end too.

@@ -25,20 +25,14 @@ pub length-declarations : (es : List Entry) → length (declarations_of es) ≡ 
 length-declarations [] = refl
 length-declarations (e ∷ es) = ap suc (length-declarations es)
 
-pub name_here : (es : List Entry) (i : ℕ) (e : Entry) → i < length es → e ≡ get_or es i e → slice_get (declared_names (declarations_of es)) i ≡ Some e.name
-name_here [] i e lt is = absurd (omega (arith, lt))
-name_here (f ∷ es) zero e lt is = ap (λ (a : Entry). Some a.name) (sym is)
-name_here (f ∷ es) (suc i) e lt is = name_here es i e (omega (arith, lt)) is
+pub length-names : (ds : Declarations) → length (declared_names ds) ≡ length ds
+length-names [] = refl
+length-names (d ∷ ds) = ap suc (length-names ds)
 
 pub body_here : (es : List Entry) (i : ℕ) (e : Entry) → i < length es → e ≡ get_or es i e → declared_body (declarations_of es) i ≡ option_map ty_of e.body
 body_here [] i e lt is = absurd (omega (arith, lt))
 body_here (f ∷ es) zero e lt is = ap (λ (a : Entry). option_map ty_of a.body) (sym is)
 body_here (f ∷ es) (suc i) e lt is = body_here es i e (omega (arith, lt)) is
-
-pub name_within : (ds : Declarations) (i n : ℕ) → slice_get (declared_names ds) i ≡ Some n → i < length ds
-name_within [] i n e = cc
-name_within (d ∷ ds) zero n e = omega arith
-name_within (d ∷ ds) (suc i) n e = omega (arith, name_within ds i n e)
 
 -- ---- bodies set
 
@@ -52,7 +46,7 @@ length-with_body [] x t = refl
 length-with_body (d ∷ ds) zero t = refl
 length-with_body (d ∷ ds) (suc x) t = ap suc (length-with_body ds x t)
 
-names-with_body : (ds : Declarations) (x : ℕ) (t : Ty) → declared_names (with_body ds x t) ≡ declared_names ds
+pub names-with_body : (ds : Declarations) (x : ℕ) (t : Ty) → declared_names (with_body ds x t) ≡ declared_names ds
 names-with_body [] x t = refl
 names-with_body (d ∷ ds) zero t = refl
 names-with_body (d ∷ ds) (suc x) t = ap (λ ns. d.name ∷ ns) (names-with_body ds x t)
@@ -81,7 +75,7 @@ pub length-push : {A : Type 0} (xs : List A) (x : A) → length (xs ++ x ∷ [])
 length-push [] x = refl
 length-push (y ∷ xs) x = omega (arith, length-push xs x)
 
-get-push : (ns : List ℕ) (n i m : ℕ) → slice_get (ns ++ n ∷ []) i ≡ Some m → (slice_get ns i ≡ Some m) ⊎ ((i ≡ length ns) × (n ≡ m))
+pub get-push : (ns : List ℕ) (n i m : ℕ) → slice_get (ns ++ n ∷ []) i ≡ Some m → (slice_get ns i ≡ Some m) ⊎ ((i ≡ length ns) × (n ≡ m))
 get-push [] n zero m e = inr (refl, some_is _ _ e)
 get-push [] n (suc i) m e = cc
 get-push (k ∷ ns) n zero m e = inl e

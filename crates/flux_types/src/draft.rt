@@ -8,6 +8,7 @@ ghost use Rattle.flux_types.specs.Faults.{DeclareFault, CloseFault};
 
 use crate::Ty;
 use crate::defs::{Defs, Kept};
+use crate::places::{index_of, make_room, set_index};
 use crate::search::first_unguarded;
 use flux_atom::Name;
 use std::alloc::{AllocError, Global};
@@ -45,10 +46,13 @@ struct Entry {
 }
 
 /// Names that are declared, each with its place as its index, and the bodies that they have so
-/// far.
+/// far. A name is found by its number: the draft keeps eight bytes for each number up to the
+/// greatest that was declared.
 #[derive(Drop)]
 pub struct Draft {
     entries: Vec<Entry>,
+    // the index of each name, at its number
+    places: Vec<Option<u32>>,
 }
 
 impl Model for Draft {
@@ -59,11 +63,14 @@ impl Model for Draft {
 
     ghost coded = { declarations_code };
 
+    ghost use Rattle.flux_schema.specs.Definitions.{declared_names};
     ghost use Rattle.flux_types.specs.Kept.{declarations_of, IsDraft};
+    ghost use Rattle.flux_types.specs.Places.{Locates};
 
     ghost view = { λ d. declarations_of d.entries.items };
 
-    ghost invariant = { λ d. IsDraft (declarations_of d.entries.items) };
+    ghost invariant = { λ d. IsDraft (declarations_of d.entries.items)
+        × Locates d.places.items (declared_names (declarations_of d.entries.items)) };
 }
 
 impl Draft {
@@ -73,6 +80,7 @@ impl Draft {
     {
         Draft {
             entries: Vec::new(alloc),
+            places: Vec::new(alloc),
         }
     }
 
@@ -86,11 +94,13 @@ impl Draft {
         ensures fault { IfErr result (DeclareFault self.old name) }
         ensures err { OnErr result (self.new ≡ self.old) }
     {
-        if let Some(index) = place_of(&self.entries, name) {
+        if let Some(index) = index_of(&self.places, name) {
             return Err(DefFault::Duplicate { index });
         }
+        make_room(&mut self.places, name)?;
         let index = self.entries.len() as u32;
         push_name(&mut self.entries, name)?;
+        set_index(&mut self.places, name, index);
         Ok(index)
     }
 
@@ -98,7 +108,7 @@ impl Draft {
     pub fn lookup(&self, name: Name) -> Option<u32>
         ensures { (x : ℕ) → (result ≡ Some x) ↔ (slice_get (declared_names self.now) x ≡ Some name) }
     {
-        place_of(&self.entries, name)
+        index_of(&self.places, name)
     }
 
     /// Gives a name its body, in place of one that it has. The body is dropped where this fails.
@@ -145,19 +155,6 @@ fn put_body(entries: &mut [Entry], index: u32, body: Ty)
     ensures { declarations_of entries.new ≡ with_body (declarations_of entries.old) index (ty_of body) }
 {
     entries[index as usize].body = Some(body);
-}
-
-fn place_of(entries: &[Entry], name: Name) -> Option<u32>
-    requires { length entries.now < 2 ^ 32 }
-    ensures found { IfSome result (λ x. slice_get (declared_names (declarations_of entries.now)) x ≡ Some name) }
-    ensures none { IfNone result ((x : ℕ) → ¬ (slice_get (declared_names (declarations_of entries.now)) x ≡ Some name)) }
-{
-    for (index, entry) in entries.iter().enumerate() {
-        if entry.name == name {
-            return Some(index as u32);
-        }
-    }
-    None
 }
 
 fn first_unknown(entries: &[Entry]) -> Option<u32>

@@ -4,6 +4,7 @@
 mod decider;
 mod defs;
 mod draft;
+mod places;
 mod search;
 mod text;
 mod tidied;
