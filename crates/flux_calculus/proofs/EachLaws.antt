@@ -1,60 +1,176 @@
--- What holds of each label, or each atom, of a forest holds of what a statement makes of it.
-use Rattle.std.proofs.Common.{subst, ℕ, List, [], ◌∷◌}
+-- What holds of each label and each atom of a forest, of the values of variables, and of what a
+-- statement and the procedures bring in, holds of what the statement makes of the forest.
+use Rattle.std.proofs.Common.{◌≡◌, ◌∙◌, refl, sym, subst, ℕ, Bool, true, false, List, [], ◌∷◌, Option, Some, None, if◌then◌else◌}
 use Rattle.flux_atom.specs.declared.atom.Atom.{Atom}
+use Rattle.flux_atom.specs.declared.atom.Atom.TheVariants.{Bool as Truth}
 use Rattle.flux_trees.specs.Hedge.{Plain, nil, elem, leaf, join, trees}
 use Rattle.flux_trees.specs.Each.{EachLabel, EachAtom}
-use Rattle.flux_calculus.specs.Core.{Core, Context}
-use Rattle.flux_calculus.specs.Derives.{Derives, DerivesEach, deletes, tests, passes, enters, iterates, each_end, each_more}
+use Rattle.flux_trees.specs.Same.{same}
+use Rattle.flux_calculus.specs.declared.ask.Test.{Test}
+use Rattle.flux_calculus.specs.declared.ask.Var.{Var}
+use Rattle.flux_calculus.specs.Tests.{matches}
+use Rattle.flux_calculus.specs.Query.{Query, nothing, both, literal, variable, binding, choice, alike, child, filter, each, same_var, Environment, found, and_value, truth_of, chosen, content_of_one, passing, value_each, value}
+use Rattle.flux_calculus.specs.Query as query
+use Rattle.flux_calculus.specs.Typing.{Context}
+use Rattle.flux_calculus.specs.Core.{Core, Proc, Procs, proc_of}
+use Rattle.flux_calculus.specs.Derives.{bound_first, bound_to, Derives, DerivesEach, skips, ends, follows, takes_yes, takes_no, binds, notes, inserts, deletes, renames, tests, passes, enters, goes_left, goes_right, iterates, calls, each_end, each_more}
+use Rattle.flux_calculus.specs.Brings.{Holds, AllHold, QueryBrings, QueriesBring, CoreBrings, ProcsBring}
 
--- it holds of each of the forests
-abbrev EachOf : (Plain → Type 0) → List Plain → Type 0
-EachOf Q [] = Unit {0}
-EachOf Q (v ∷ vs) = Q v × EachOf Q vs
+module _ (P : ℕ → Type 0) where
+  labels-join : (v w : Plain) → EachLabel P v → EachLabel P w → EachLabel P (join v w)
+  labels-join nil w a b = b
+  labels-join (elem _ n c r) w a b = (a.0, a.1, labels-join r w a.2 b)
+  labels-join (leaf _ x r) w a b = labels-join r w a b
 
-pub EachLabel-join : (P : ℕ → Type 0) (v w : Plain) → EachLabel P v → EachLabel P w → EachLabel P (join v w)
-EachLabel-join P nil w a b = b
-EachLabel-join P (elem _ n c r) w a b = (a.0, a.1, EachLabel-join P r w a.2 b)
-EachLabel-join P (leaf _ x r) w a b = EachLabel-join P r w a b
+module _ (Q : Atom → Type 0) where
+  atoms-join : (v w : Plain) → EachAtom Q v → EachAtom Q w → EachAtom Q (join v w)
+  atoms-join nil w a b = b
+  atoms-join (elem _ n c r) w a b = (a.0, atoms-join r w a.1 b)
+  atoms-join (leaf _ x r) w a b = (a.0, atoms-join r w a.1 b)
 
-pub EachAtom-join : (P : Atom → Type 0) (v w : Plain) → EachAtom P v → EachAtom P w → EachAtom P (join v w)
-EachAtom-join P nil w a b = b
-EachAtom-join P (elem _ n c r) w a b = (a.0, EachAtom-join P r w a.1 b)
-EachAtom-join P (leaf _ x r) w a b = (a.0, EachAtom-join P r w a.1 b)
+module _ (P : ℕ → Type 0) (Q : Atom → Type 0) where
+  -- it holds of each of the forests
+  abbrev EachHolds : List Plain → Type 0
+  EachHolds [] = Unit {0}
+  EachHolds (v ∷ vs) = Holds P Q v × EachHolds vs
 
-labels_of_trees : (P : ℕ → Type 0) (v : Plain) → EachLabel P v → EachOf (EachLabel P) (trees v)
-labels_of_trees P nil a = tt
-labels_of_trees P (elem _ n c r) a = ((a.0, a.1, tt), labels_of_trees P r a.2)
-labels_of_trees P (leaf _ x r) a = (tt, labels_of_trees P r a)
+  holds-join : (v w z : Plain) → join v w ≡ z → Holds P Q v → Holds P Q w → Holds P Q z
+  holds-join v w z e a b = subst (λ x. Holds P Q x) e (labels-join P v w a.0 b.0, atoms-join Q v w a.1 b.1)
 
-atoms_of_trees : (P : Atom → Type 0) (v : Plain) → EachAtom P v → EachOf (EachAtom P) (trees v)
-atoms_of_trees P nil a = tt
-atoms_of_trees P (elem _ n c r) a = ((a.0, tt), atoms_of_trees P r a.1)
-atoms_of_trees P (leaf _ x r) a = ((a.0, tt), atoms_of_trees P r a.1)
+  of_trees : (v : Plain) → Holds P Q v → EachHolds (trees v)
+  of_trees nil a = tt
+  of_trees (elem _ n c r) a = (((a.0.0, a.0.1, tt), (a.1.0, tt)), of_trees r (a.0.2, a.1.1))
+  of_trees (leaf _ x r) a = ((tt, (a.1.0, tt)), of_trees r (a.0, a.1.1))
 
-mutual
-  pub derives-labels : (P : ℕ → Type 0) {γ : Context} {v w : Plain} {s : Core} → Derives γ v s w → EachLabel P v → EachLabel P w
-  derives-labels P deletes a = tt
-  derives-labels P (tests one fits d) a = derives-labels P d a
-  derives-labels P (passes one misses) a = a
-  derives-labels P (enters d) a = (a.0, derives-labels P d a.1, tt)
-  derives-labels P (iterates {v = v} e) a = each-labels P e (labels_of_trees P v a)
+  -- ---- the parts of a value
 
-  each-labels : (P : ℕ → Type 0) {γ : Context} {vs : List Plain} {w : Plain} {s : Core} → DerivesEach γ vs s w → EachOf (EachLabel P) vs → EachLabel P w
-  each-labels P each_end a = tt
-  each-labels P (each_more {u = u} {r = r} d e j) a =
-      let Q : Plain → Type 0 = λ x. EachLabel P x in
-      subst Q j (EachLabel-join P u r (derives-labels P d a.0) (each-labels P e a.1))
+  -- where there is a value, it holds of it
+  abbrev HoldsIn : Option Plain → Type 0
+  HoldsIn None = Unit {0}
+  HoldsIn (Some v) = Holds P Q v
 
-mutual
-  pub derives-atoms : (P : Atom → Type 0) {γ : Context} {v w : Plain} {s : Core} → Derives γ v s w → EachAtom P v → EachAtom P w
-  derives-atoms P deletes a = tt
-  derives-atoms P (tests one fits d) a = derives-atoms P d a
-  derives-atoms P (passes one misses) a = a
-  derives-atoms P (enters d) a = (derives-atoms P d a.0, tt)
-  derives-atoms P (iterates {v = v} e) a = each-atoms P e (atoms_of_trees P v a)
+  in_and : (o : Option Plain) (go : Plain → Option Plain) → HoldsIn o → ((v : Plain) → Holds P Q v → HoldsIn (go v)) → HoldsIn (and_value o go)
+  in_and None go a f = tt
+  in_and (Some v) go a f = f v a
 
-  each-atoms : (P : Atom → Type 0) {γ : Context} {vs : List Plain} {w : Plain} {s : Core} → DerivesEach γ vs s w → EachOf (EachAtom P) vs → EachAtom P w
-  each-atoms P each_end a = tt
-  each-atoms P (each_more {u = u} {r = r} d e j) a =
-      let Q : Plain → Type 0 = λ x. EachAtom P x in
-      subst Q j (EachAtom-join P u r (derives-atoms P d a.0) (each-atoms P e a.1))
+  -- the value of a variable, by the value of the first that is bound
+  in_found_by : (b : Bool) (v : Plain) (o : Option Plain) → Holds P Q v → HoldsIn o → HoldsIn (if b then Some v else o)
+  in_found_by true v o a h = a
+  in_found_by false v o a h = h
+
+  in_option : (o : Option Plain) → ((v : Plain) → o ≡ Some v → Holds P Q v) → HoldsIn o
+  in_option None f = tt
+  in_option (Some v) f = f v refl
+
+  bound_holds_by : (b : Bool) (v w : Plain) (o : Option Plain) → Holds P Q v → (o ≡ Some w → Holds P Q w) → (if b then Some v else o) ≡ Some w → Holds P Q w
+  bound_holds_by true v w o a f e = let same : v ≡ w = cc in subst (λ x. Holds P Q x) same a
+  bound_holds_by false v w o a f e = f e
+
+  -- one more variable is bound
+  all_bound : (γ : Environment) (x : Var) (v : Plain) → AllHold P Q γ → Holds P Q v → AllHold P Q ((x, v) ∷ γ)
+  all_bound γ x v h a y w e = bound_holds_by (same_var x y) v w (found γ y) a (h y w) e
+
+  in_chosen : (b : Option Bool) (o p : Option Plain) → HoldsIn o → HoldsIn p → HoldsIn (chosen b o p)
+  in_chosen None o p g h = tt
+  in_chosen (Some true) o p g h = g
+  in_chosen (Some false) o p g h = h
+
+  in_content : (v : Plain) → Holds P Q v → HoldsIn (content_of_one v)
+  in_content nil a = tt
+  in_content (elem _ n c nil) a = (a.0.1, a.1.0)
+  in_content (elem _ n c (elem _ m d r)) a = tt
+  in_content (elem _ n c (leaf _ x r)) a = tt
+  in_content (leaf _ x nil) a = (tt, tt)
+  in_content (leaf _ x (elem _ m d r)) a = tt
+  in_content (leaf _ x (leaf _ y r)) a = tt
+
+  if_elem : (b : Bool) (n : ℕ) (c r : Plain) → P n → Holds P Q c → Holds P Q r → Holds P Q (if b then elem tt n c r else r)
+  if_elem true n c r l a h = ((l, a.0, h.0), (a.1, h.1))
+  if_elem false n c r l a h = h
+
+  if_leaf : (b : Bool) (x : Atom) (r : Plain) → Q x → Holds P Q r → Holds P Q (if b then leaf tt x r else r)
+  if_leaf true x r l h = (h.0, (l, h.1))
+  if_leaf false x r l h = h
+
+  of_passing : (t : Test) (v : Plain) → Holds P Q v → Holds P Q (passing t v)
+  of_passing t nil a = a
+  of_passing t (elem m n c r) a = if_elem (matches t (elem m n c nil)) n c (passing t r) a.0.0 (a.0.1, a.1.0) (of_passing t r (a.0.2, a.1.1))
+  of_passing t (leaf m x r) a = if_leaf (matches t (leaf m x nil)) x (passing t r) a.1.0 (of_passing t r (a.0, a.1.1))
+
+  in_each : (go : Plain → Option Plain) (vs : List Plain) → EachHolds vs → ((v : Plain) → Holds P Q v → HoldsIn (go v)) → HoldsIn (value_each go vs)
+  in_each go [] a f = (tt, tt)
+  in_each go (v ∷ vs) a f =
+      in_and (go v) _ (f v a.0) (λ u h. in_and (value_each go vs) _ (in_each go vs a.1 f) (λ w k. holds-join u w (join u w) refl h k))
+
+  -- ---- queries
+
+  -- truth values are brought in by each comparison
+  module _ (truths : (b : Bool) → Q (Truth b)) where
+    in_value : (γ : Environment) (q : Query) → AllHold P Q γ → QueryBrings P Q q → HoldsIn (value γ q)
+    in_value γ (nothing at) h a = (tt, tt)
+    in_value γ (both at q r) h a =
+        in_and (value γ q) _ (in_value γ q h a.0) (λ v f. in_and (value γ r) _ (in_value γ r h a.1) (λ w g. holds-join v w (join v w) refl f g))
+    in_value γ (query.element at n q) h a = in_and (value γ q) _ (in_value γ q h a.1) (λ v f. ((a.0, f.0, tt), (f.1, tt)))
+    in_value γ (literal at x) h a = (tt, (a, tt))
+    in_value γ (variable at x) h a = in_option (found γ x) (h x)
+    in_value γ (binding at x q r) h a = in_and (value γ q) _ (in_value γ q h a.0) (λ v f. in_value ((x, v) ∷ γ) r (all_bound γ x v h f) a.1)
+    in_value γ (choice at c q r) h a =
+        in_and (value γ c) _ (in_value γ c h a.0) (λ v f. in_chosen (truth_of v) (value γ q) (value γ r) (in_value γ q h a.1) (in_value γ r h a.2))
+    in_value γ (alike at q r) h a =
+        in_and (value γ q) _ (in_value γ q h a.0) (λ v f. in_and (value γ r) _ (in_value γ r h a.1) (λ w g. (tt, (truths (same v w), tt))))
+    in_value γ (child at x) h a = in_and (found γ x) content_of_one (in_option (found γ x) (h x)) in_content
+    in_value γ (filter at q t) h a = in_and (value γ q) _ (in_value γ q h a) (λ v f. of_passing t v f)
+    in_value γ (each at x q r) h a =
+        in_and (value γ q) _ (in_value γ q h a.0) (λ v f.
+        in_each (λ u. value ((x, u) ∷ γ) r) (trees v) (of_trees v f) (λ u g. in_value ((x, u) ∷ γ) r (all_bound γ x u h g) a.1))
+
+    value_holds : (γ : Environment) (q : Query) (v : Plain) → AllHold P Q γ → QueryBrings P Q q → value γ q ≡ Some v → Holds P Q v
+    value_holds γ q v h a e = subst HoldsIn e (in_value γ q h a)
+
+    -- the parameters of a call
+    abbrev AllHoldIn : Option Environment → Type 0
+    AllHoldIn None = Unit {0}
+    AllHoldIn (Some δ) = AllHold P Q δ
+
+    none_bound : AllHold P Q []
+    none_bound x v e = cc
+
+    in_first : (x : Var) (o : Option Plain) (b : Option Environment) → HoldsIn o → AllHoldIn b → AllHoldIn (bound_first x o b)
+    in_first x None b a h = tt
+    in_first x (Some v) None a h = tt
+    in_first x (Some v) (Some δ) a h = all_bound δ x v h a
+
+    in_bound : (γ : Environment) (ps : Context) (qs : List Query) → AllHold P Q γ → QueriesBring P Q qs → AllHoldIn (bound_to γ ps qs)
+    in_bound γ [] [] h a = none_bound
+    in_bound γ [] (q ∷ qs) h a = tt
+    in_bound γ (p ∷ ps) [] h a = tt
+    in_bound γ (p ∷ ps) (q ∷ qs) h a = in_first p.0 (value γ q) (bound_to γ ps qs) (in_value γ q h a.0) (in_bound γ ps qs h a.1)
+
+    bound_holds : (γ δ : Environment) (ps : Context) (qs : List Query) → AllHold P Q γ → QueriesBring P Q qs → bound_to γ ps qs ≡ Some δ → AllHold P Q δ
+    bound_holds γ δ ps qs h a e = subst AllHoldIn e (in_bound γ ps qs h a)
+
+    -- ---- statements
+
+    mutual
+      pub derives-holds : {procs : Procs} {d : ℕ} {γ : Environment} {v w : Plain} {s : Core} → Derives procs d γ v s w → ProcsBring P Q procs → AllHold P Q γ → CoreBrings P Q s → Holds P Q v → Holds P Q w
+      derives-holds skips b h a f = f
+      derives-holds ends b h a f = f
+      derives-holds (follows d e) b h a f = derives-holds e b h a.1 (derives-holds d b h a.0 f)
+      derives-holds (takes_yes e d) b h a f = derives-holds d b h a.1 f
+      derives-holds (takes_no e d) b h a f = derives-holds d b h a.2 f
+      derives-holds {γ = γ} (binds {u = u} {x = x} {q = q} e d) b h a f = derives-holds d b (all_bound γ x u h (value_holds γ q u h a.0 e)) a.1 f
+      derives-holds {γ = γ} {v = v} (notes {x = x} d) b h a f = derives-holds d b (all_bound γ x v h f) a f
+      derives-holds {γ = γ} {w = w} (inserts {q = q} e) b h a f = value_holds γ q w h a e
+      derives-holds deletes b h a f = (tt, tt)
+      derives-holds renames b h a f = ((a, f.0.1, tt), f.1)
+      derives-holds (tests one fits d) b h a f = derives-holds d b h a f
+      derives-holds (passes one misses) b h a f = f
+      derives-holds (enters d) b h a f = let g = derives-holds d b h a (f.0.1, f.1.0) in ((f.0.0, g.0, tt), (g.1, tt))
+      derives-holds {v = v} {w = w} (goes_left {u = u} d j) b h a f = holds-join u v w j (derives-holds d b h a (tt, tt)) f
+      derives-holds {v = v} {w = w} (goes_right {u = u} d j) b h a f = holds-join v u w j f (derives-holds d b h a (tt, tt))
+      derives-holds {v = v} (iterates e) b h a f = each-holds e b h a (of_trees v f)
+      derives-holds {γ = γ} (calls {δ = δ} {p = p} {args = args} {q = q} e k d) b h a f = derives-holds d b (bound_holds γ δ q.params args h a k) (b p q e) f
+
+      each-holds : {procs : Procs} {d : ℕ} {γ : Environment} {vs : List Plain} {w : Plain} {s : Core} → DerivesEach procs d γ vs s w → ProcsBring P Q procs → AllHold P Q γ → CoreBrings P Q s → EachHolds vs → Holds P Q w
+      each-holds each_end b h a f = (tt, tt)
+      each-holds {w = w} (each_more {u = u} {r = r} d e j) b h a f = holds-join u r w j (derives-holds d b h a f.0) (each-holds e b h a f.1)

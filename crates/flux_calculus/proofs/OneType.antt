@@ -9,7 +9,8 @@ use Rattle.flux_schema.proofs.Singles.{single-only}
 use Rattle.flux_calculus.specs.declared.ask.Test.{Test}
 use Rattle.flux_calculus.specs.declared.ask.Var.{Var}
 use Rattle.flux_calculus.specs.Query.{Query}
-use Rattle.flux_calculus.specs.Typing.{Context, Fault, Outcome, typed, faulty, concluded, Treatment, Goal, of_query, of_map, returning, keeping, IsAtomic, kept, Types, of_nothing, of_one, of_several, first_of_several, others_of_several, of_element, content_of_element, of_literal, of_variable, of_no_variable, of_binding, bound_of_binding, of_choice, condition_of_choice, no_truth_of_choice, yes_of_choice, no_of_choice, of_alike, left_of_alike, right_of_alike, of_child, of_atom_child, of_many_child, of_no_child, of_filter, from_of_filter, of_each, over_of_each, returns, body_of_each, keeps, of_empty, of_seq, left_of_seq, right_of_seq, of_alt, left_of_alt, right_of_alt, of_star, inside_of_star, of_name}
+use Rattle.flux_calculus.specs.Fault.{Fault}
+use Rattle.flux_calculus.specs.Typing.{Context, Outcome, typed, faulty, concluded, Treatment, Goal, of_query, of_map, returning, keeping, IsAtomic, kept, Types, of_nothing, of_one, of_several, first_of_several, others_of_several, of_element, content_of_element, of_literal, of_variable, of_no_variable, of_binding, bound_of_binding, of_choice, condition_of_choice, no_truth_of_choice, yes_of_choice, no_of_choice, of_alike, left_of_alike, right_of_alike, of_child, of_atom_child, of_many_child, of_no_child, of_filter, from_of_filter, of_each, over_of_each, returns, body_of_each, keeps, of_empty, of_seq, left_of_seq, right_of_seq, of_alt, left_of_alt, right_of_alt, of_star, inside_of_star, of_name}
 
 -- what the type of an atom's or an element's body comes from
 returned : {defs : Definitions} {Γ : Context} {at : ℕ} {x : Var} {q : Query} {a : Ty} {p : Outcome} → IsAtomic a → Types defs (of_map at (returning Γ x q) a) p →

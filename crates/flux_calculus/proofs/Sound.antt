@@ -15,10 +15,11 @@ use Rattle.flux_schema.specs.Single.{Single, of_atom, of_element as of_element_t
 use Rattle.flux_calculus.specs.declared.ask.Test.{Test}
 use Rattle.flux_calculus.specs.declared.ask.Test.TheVariants.{Label, AnyElement, OfText, OfBool}
 use Rattle.flux_calculus.specs.declared.ask.Var.{Var}
-use Rattle.flux_calculus.specs.Core.{matches}
+use Rattle.flux_calculus.specs.Tests.{element_matches, kind_matches, matches}
+use Rattle.flux_calculus.specs.Fault.{too_large}
 use Rattle.flux_calculus.specs.Query.{Query, nothing, both, binding, child, filter, each, alike, choice, literal, variable, same_var, found, Environment, and_value, truth_of, chosen, content_of_one, passing, value_each, value}
 use Rattle.flux_calculus.specs.Query as query
-use Rattle.flux_calculus.specs.Typing.{Context, Outcome, typed, faulty, too_large, is_within, concluded, type_matches, Treatment, Goal, of_query, of_map, returning, keeping, IsAtomic, kept, Suits, Types, of_nothing, of_one, of_several, first_of_several, others_of_several, of_element, content_of_element, of_literal, of_variable, of_no_variable, of_binding, bound_of_binding, of_choice, condition_of_choice, no_truth_of_choice, yes_of_choice, no_of_choice, of_alike, left_of_alike, right_of_alike, of_child, of_atom_child, of_many_child, of_no_child, of_filter, from_of_filter, of_each, over_of_each, returns, body_of_each, keeps, of_empty, of_seq, left_of_seq, right_of_seq, of_alt, left_of_alt, right_of_alt, of_star, inside_of_star, of_name}
+use Rattle.flux_calculus.specs.Typing.{Context, Outcome, typed, faulty, is_within, concluded, type_matches, Treatment, Goal, of_query, of_map, returning, keeping, IsAtomic, kept, Suits, Types, of_nothing, of_one, of_several, first_of_several, others_of_several, of_element, content_of_element, of_literal, of_variable, of_no_variable, of_binding, bound_of_binding, of_choice, condition_of_choice, no_truth_of_choice, yes_of_choice, no_of_choice, of_alike, left_of_alike, right_of_alike, of_child, of_atom_child, of_many_child, of_no_child, of_filter, from_of_filter, of_each, over_of_each, returns, body_of_each, keeps, of_empty, of_seq, left_of_seq, right_of_seq, of_alt, left_of_alt, right_of_alt, of_star, inside_of_star, of_name}
 
 -- ---- values
 
@@ -57,8 +58,8 @@ leaf_by false x r v w e = e
 
 passing-join : (t : Test) (v w : Plain) → passing t (join v w) ≡ join (passing t v) (passing t w)
 passing-join t nil w = refl
-passing-join t (elem _ n c v) w = elem_by (matches t (elem tt n c nil)) n c (passing t (join v w)) (passing t v) (passing t w) (passing-join t v w)
-passing-join t (leaf _ x v) w = leaf_by (matches t (leaf tt x nil)) x (passing t (join v w)) (passing t v) (passing t w) (passing-join t v w)
+passing-join t (elem m n c v) w = elem_by (matches t (elem m n c nil)) n c (passing t (join v w)) (passing t v) (passing t w) (passing-join t v w)
+passing-join t (leaf m x v) w = leaf_by (matches t (leaf m x nil)) x (passing t (join v w)) (passing t v) (passing t w) (passing-join t v w)
 
 -- what a treatment makes of a forest
 abbrev treated : Environment → Treatment → Plain → Option Plain
@@ -116,22 +117,8 @@ module _ (defs : Definitions) where
   one_tree i (in_element n m) = refl
   one_tree i _ = absurd i
 
-  match_kind : (p : Test) (x : Atom) → matches p (leaf tt x nil) ≡ type_matches p (atom (kind_of x))
-  match_kind (Label n) x = refl
-  match_kind AnyElement x = refl
-  match_kind OfText (Truth b) = refl
-  match_kind OfText (Words w) = refl
-  match_kind OfBool (Truth b) = refl
-  match_kind OfBool (Words w) = refl
-
-  match_atom : (p : Test) (x : Atom) (k : AtomKind) → kind_of x ≡ k → matches p (leaf tt x nil) ≡ type_matches p (atom k)
-  match_atom p x k e = subst (λ l. matches p (leaf tt x nil) ≡ type_matches p (atom l)) e (match_kind p x)
-
-  match_element : (p : Test) (n : ℕ) (c : Plain) (t : Ty) → matches p (elem tt n c nil) ≡ type_matches p (element n t)
-  match_element (Label m) n c t = refl
-  match_element AnyElement n c t = refl
-  match_element OfText n c t = refl
-  match_element OfBool n c t = refl
+  match_atom : (p : Test) (x : Atom) (k : AtomKind) → kind_of x ≡ k → kind_matches p (kind_of x) ≡ type_matches p (atom k)
+  match_atom p x k e = ap (kind_matches p) e
 
   kept_by : (b c : Bool) (v : Plain) (a : Ty) → b ≡ c → Member defs v a → Member defs (if b then v else nil) (if c then a else empty)
   kept_by true true v a e m = m
@@ -140,8 +127,8 @@ module _ (defs : Definitions) where
   kept_by false true v a e m = cc
 
   one_kept : (p : Test) {a : Ty} {v : Plain} → IsAtomic a → Member defs v a → Member defs (passing p v) (kept p a)
-  one_kept p i (in_atom x {k} e) = kept_by (matches p (leaf tt x nil)) (type_matches p (atom k)) (leaf tt x nil) (atom k) (match_atom p x k e) (in_atom x e)
-  one_kept p i (in_element n {v} {t} m) = kept_by (matches p (elem tt n v nil)) (type_matches p (element n t)) (elem tt n v nil) (element n t) (match_element p n v t) (in_element n m)
+  one_kept p i (in_atom x {k} e) = kept_by (kind_matches p (kind_of x)) (kind_matches p k) (leaf tt x nil) (atom k) (match_atom p x k e) (in_atom x e)
+  one_kept p i (in_element n {v} {t} m) = kept_by (element_matches p n) (element_matches p n) (elem tt n v nil) (element n t) refl (in_element n m)
   one_kept p i _ = absurd i
 
   -- ---- the type of one tree, and the truth values
@@ -221,12 +208,12 @@ module _ (defs : Definitions) where
   sound (of_several {Γ} {at} {next} {q} {r} {s} {t} {u} {o} d e c) =
       let f = sound d in
       let g = sound e in
-      conclude (of_query Γ (both at q (both next r s))) at (seq t u) o (λ γ h. in_both t u (value γ q) (value γ (both next r s)) (f γ h) (g γ h)) c
+      conclude (of_query Γ (both at q (both next r s))) at.from (seq t u) o (λ γ h. in_both t u (value γ q) (value γ (both next r s)) (f γ h) (g γ h)) c
   sound (first_of_several d) = tt
   sound (others_of_several d e) = tt
   sound (of_element {Γ} {at} {n} {q} {t} {o} d c) =
       let f = sound d in
-      conclude (of_query Γ (query.element at n q)) at (element n t) o (λ γ h. let a = f γ h in (elem tt n a.0 nil, rw a.1 refl, in_element n a.2)) c
+      conclude (of_query Γ (query.element at n q)) at.from (element n t) o (λ γ h. let a = f γ h in (elem tt n a.0 nil, rw a.1 refl, in_element n a.2)) c
   sound (content_of_element d) = tt
   sound (of_literal x) = λ γ s. (leaf tt x nil, refl, in_atom x refl)
   sound (of_variable {Γ} {at} {x} {t} e) = λ γ s. s x t e
@@ -239,7 +226,7 @@ module _ (defs : Definitions) where
       let f = sound d in
       let g = sound e in
       let l = sound h in
-      conclude (of_query Γ (choice at c q r)) at (alt u w) o (λ γ s.
+      conclude (of_query Γ (choice at c q r)) at.from (alt u w) o (λ γ s.
       let a = f γ s in
       let b = truth_in (i a.0 a.2) in
       at_value (alt u w) _ _ (rw (a.1, b.1) refl) (in_chosen b.0 u w (value γ q) (value γ r) (g γ s) (l γ s))) k
@@ -259,11 +246,11 @@ module _ (defs : Definitions) where
   sound (of_no_child e) = tt
   sound (of_filter {Γ} {at} {q} {p} {t} {o} d e) =
       let f = sound d in
-      carry (of_map at (keeping p) t) (of_query Γ (filter at q p)) o (λ u h γ s. let a = f γ s in at_value u _ _ (rw a.1 refl) (h γ tt a.0 a.2)) (sound e)
+      carry (of_map at.from (keeping p) t) (of_query Γ (filter at q p)) o (λ u h γ s. let a = f γ s in at_value u _ _ (rw a.1 refl) (h γ tt a.0 a.2)) (sound e)
   sound (from_of_filter d) = tt
   sound (of_each {Γ} {at} {x} {q} {r} {t} {o} d e) =
       let f = sound d in
-      carry (of_map at (returning Γ x r) t) (of_query Γ (each at x q r)) o (λ u h γ s. let a = f γ s in at_value u _ _ (rw a.1 refl) (h γ s a.0 a.2)) (sound e)
+      carry (of_map at.from (returning Γ x r) t) (of_query Γ (each at x q r)) o (λ u h γ s. let a = f γ s in at_value u _ _ (rw a.1 refl) (h γ s a.0 a.2)) (sound e)
   sound (over_of_each d) = tt
   sound (returns {Γ} {at} {x} {q} {a} {t} {o} i d c) =
       let f = sound d in

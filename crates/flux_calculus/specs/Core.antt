@@ -1,36 +1,52 @@
--- The statements of the core language, what they may ask of a tree, and what they are carried out in.
-use Rattle.std.specs.Prelude.{ℕ, Bool, true, false, ◌==◌}
-use Rattle.flux_atom.specs.declared.atom.Atom.TheVariants.{Bool as Truth, Text}
+-- The statements of the core language, after FLUX, and the procedures that they call.
+use Rattle.std.specs.Prelude.{ℕ, List, Option, slice_get}
+use Rattle.flux_schema.specs.Ty.{Ty}
 use Rattle.flux_calculus.specs.declared.ask.Test.{Test}
-use Rattle.flux_calculus.specs.declared.ask.Test.TheVariants.{Label, AnyElement, OfText, OfBool}
-use Rattle.flux_trees.specs.Hedge.{Plain, nil, elem, leaf}
+use Rattle.flux_calculus.specs.declared.ask.Var.{Var}
+use Rattle.flux_calculus.specs.declared.ask.Span.{Span}
+use Rattle.flux_calculus.specs.Query.{Query}
+use Rattle.flux_calculus.specs.Typing.{Context}
 
--- a statement updates the forest that it is given: all of it is deleted, a statement is carried out
--- where the one tree passes a test, on the content of the one element, or on each tree by itself
+-- a statement updates the forest that it is given, its focus. Each has the span of its text
 pub data Core : Type 0 where
-  delete : Core
-  test : Test → Core → Core
-  children : Core → Core
-  iter : Core → Core
+  -- the focus stays
+  skip : (at : Span) → Core
+  -- statements one behind the other: none, or one and then others
+  nothing : (at : Span) → Core
+  both : (at : Span) (first others : Core) → Core
+  -- one of two, as a condition says; one with a variable bound to the value of a query; one with a
+  -- variable bound to the focus
+  choice : (at : Span) (condition : Query) (yes_part no_part : Core) → Core
+  binding : (at : Span) (x : Var) (bound : Query) (body : Core) → Core
+  snapshot : (at : Span) (x : Var) (body : Core) → Core
+  -- the value of a query takes an empty focus' place; nothing takes the focus' place; one element
+  -- gets another label
+  insert : (at : Span) (q : Query) → Core
+  delete : (at : Span) → Core
+  rename : (at : Span) (n : ℕ) → Core
+  -- a statement on the one tree where it passes a test, on the content of the one element, on the
+  -- empty forest before or behind the focus, on each tree by itself
+  test : (at : Span) (t : Test) (body : Core) → Core
+  children : (at : Span) (body : Core) → Core
+  left : (at : Span) (body : Core) → Core
+  right : (at : Span) (body : Core) → Core
+  iter : (at : Span) (body : Core) → Core
+  -- the procedure with this index, with the values of queries for its parameters
+  call : (at : Span) (p : ℕ) (args : List Query) → Core
 
--- how many calls deep a statement may still go
-pub record Context : Type 0 where
-  pub depth : ℕ
+-- a procedure: its name, its parameters with their types, the type of the focuses that it is
+-- declared at, the type of its results and where that is declared, what it does
+pub record Proc : Type 0 where
+  pub name : ℕ
+  pub params : Context
+  pub focus : Ty
+  pub result : Ty
+  pub result_at : ℕ
+  pub body : Core
 
--- a script begins with sixteen calls to go
-abbrev pub standard : Context
-standard = record { depth = 16 }
+abbrev pub Procs : Type 0
+Procs = List Proc
 
--- the forest is one tree
-abbrev pub is_tree : Plain → Bool
-is_tree (elem _ a c nil) = true
-is_tree (leaf _ x nil) = true
-is_tree _ = false
-
--- the first tree passes the test: it is an element of the label, any element, a text, a truth value
-abbrev pub matches : Test → Plain → Bool
-matches (Label n) (elem _ a c r) = a == n
-matches AnyElement (elem _ a c r) = true
-matches OfText (leaf _ (Text w) r) = true
-matches OfBool (leaf _ (Truth b) r) = true
-matches _ _ = false
+-- the procedure with an index, if there is one
+abbrev pub proc_of : Procs → ℕ → Option Proc
+proc_of procs p = slice_get procs p

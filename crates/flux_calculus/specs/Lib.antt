@@ -1,9 +1,11 @@
 pub use Rattle.flux_trees.specs.Hedge
 pub use Rattle.flux_trees.specs.Each
+pub mod Tests
+pub mod Query
+pub mod Fault
+pub mod Typing
 pub mod Core
 pub mod Derives
-pub mod Outcome
-pub mod Paths
+pub mod Ending
 pub mod Laws
-pub mod Query
-pub mod Typing
+pub mod Brings

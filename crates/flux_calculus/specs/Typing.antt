@@ -1,6 +1,6 @@
 -- The type of a query, or the first fault: a rule for each case. Queries and their types are after
 -- μXQ; inclusion of types is asked for at a condition alone.
-use Rattle.std.specs.Prelude.{◌≡◌, ℕ, Bool, true, false, ◌&&◌, ◌==◌, nat_lt, ◌∷◌, Some, None, if◌then◌else◌}
+use Rattle.std.specs.Prelude.{◌≡◌, ℕ, Bool, true, false, ◌&&◌, nat_lt, ◌∷◌, Some, None, if◌then◌else◌}
 use Rattle.flux_atom.specs.declared.atom.Atom.{Atom}
 use Rattle.flux_atom.specs.declared.atom.AtomKind.{AtomKind}
 use Rattle.flux_atom.specs.declared.atom.AtomKind.TheVariants as kind
@@ -11,8 +11,10 @@ use Rattle.flux_schema.specs.Definitions.{Definitions, body_of, IsGood}
 use Rattle.flux_schema.specs.Member.{Member, Included}
 use Rattle.flux_schema.specs.Single.{Single, IsNotSingle}
 use Rattle.flux_calculus.specs.declared.ask.Test.{Test}
-use Rattle.flux_calculus.specs.declared.ask.Test.TheVariants.{Label, AnyElement, OfText, OfBool}
 use Rattle.flux_calculus.specs.declared.ask.Var.{Var}
+use Rattle.flux_calculus.specs.declared.ask.Span.{Span}
+use Rattle.flux_calculus.specs.Tests.{element_matches, kind_matches}
+use Rattle.flux_calculus.specs.Fault.{Fault, unknown_variable, not_single, not_bool, too_large}
 use Rattle.flux_calculus.specs.Query.{Query, nothing, both, literal, variable, binding, choice, alike, child, filter, each, place_of, Bound, found, Environment, value}
 use Rattle.flux_calculus.specs.Query as query
 
@@ -20,15 +22,7 @@ use Rattle.flux_calculus.specs.Query as query
 abbrev pub Context : Type 0
 Context = Bound Ty
 
--- what can be wrong with a query, and where: a variable that isn't bound; a variable of a type that
--- isn't of one tree; a condition of a type that isn't included in `bool`; a type over the limits
-pub data Fault : Type 0 where
-  unknown_variable : (at : ℕ) → Fault
-  not_single : (at : ℕ) → Fault
-  not_bool : (at : ℕ) (type : Ty) → Fault
-  too_large : (at : ℕ) → Fault
-
--- what comes of typing: a type, or the first fault
+-- what comes of typing a query: a type, or the first fault
 pub data Outcome : Type 0 where
   typed : Ty → Outcome
   faulty : Fault → Outcome
@@ -43,11 +37,13 @@ concluded at t = if is_within t then typed t else faulty (too_large at)
 
 -- whether every tree of an atom type, or of an element type, passes the test; else none does
 abbrev pub type_matches : Test → Ty → Bool
-type_matches (Label n) (element m t) = m == n
-type_matches AnyElement (element m t) = true
-type_matches OfText (atom kind.Text) = true
-type_matches OfBool (atom kind.Bool) = true
-type_matches _ _ = false
+type_matches t empty = false
+type_matches t (atom k) = kind_matches t k
+type_matches t (element n u) = element_matches t n
+type_matches t (seq u w) = false
+type_matches t (alt u w) = false
+type_matches t (star u) = false
+type_matches t (named x) = false
 
 -- what is done with each tree of a type: it is bound to a variable and a query takes its place, or
 -- it is kept where it passes a test
@@ -63,9 +59,13 @@ pub data Goal : Type 0 where
 
 -- an atom type or an element type
 abbrev pub IsAtomic : Ty → Type 0
+IsAtomic empty = ⊥
 IsAtomic (atom k) = Unit {0}
 IsAtomic (element n t) = Unit {0}
-IsAtomic _ = ⊥
+IsAtomic (seq t u) = ⊥
+IsAtomic (alt t u) = ⊥
+IsAtomic (star t) = ⊥
+IsAtomic (named x) = ⊥
 
 -- what a test makes of one
 abbrev pub kept : Test → Ty → Ty
@@ -75,77 +75,143 @@ kept t a = if type_matches t a then a else empty
 -- first fault is the outcome
 pub data Types (defs : Definitions) : Goal → Outcome → Type 0 where
   -- no query has the type `()`
-  of_nothing : {Γ : Context} {at : ℕ} → Types defs (of_query Γ (nothing at)) (typed empty)
+  of_nothing : {Γ : Context} {at : Span} → Types defs (of_query Γ (nothing at)) (typed empty)
   -- one query has its own type
-  of_one : {Γ : Context} {at end : ℕ} {q : Query} {o : Outcome} → Types defs (of_query Γ q) o → Types defs (of_query Γ (both at q (nothing end))) o
+  of_one : {Γ : Context} {at end : Span} {q : Query} {o : Outcome} →
+      Types defs (of_query Γ q) o → Types defs (of_query Γ (both at q (nothing end))) o
   -- several have the type of the first and then that of the others
-  of_several : {Γ : Context} {at next : ℕ} {q r s : Query} {t u : Ty} {o : Outcome} → Types defs (of_query Γ q) (typed t) → Types defs (of_query Γ (both next r s)) (typed u) →
-      concluded at (seq t u) ≡ o → Types defs (of_query Γ (both at q (both next r s))) o
-  first_of_several : {Γ : Context} {at next : ℕ} {q r s : Query} {f : Fault} → Types defs (of_query Γ q) (faulty f) → Types defs (of_query Γ (both at q (both next r s))) (faulty f)
-  others_of_several : {Γ : Context} {at next : ℕ} {q r s : Query} {t : Ty} {f : Fault} → Types defs (of_query Γ q) (typed t) → Types defs (of_query Γ (both next r s)) (faulty f) →
+  of_several : {Γ : Context} {at next : Span} {q r s : Query} {t u : Ty} {o : Outcome} →
+      Types defs (of_query Γ q) (typed t) → Types defs (of_query Γ (both next r s)) (typed u) →
+      concluded at.from (seq t u) ≡ o → Types defs (of_query Γ (both at q (both next r s))) o
+  first_of_several : {Γ : Context} {at next : Span} {q r s : Query} {f : Fault} →
+      Types defs (of_query Γ q) (faulty f) →
+      Types defs (of_query Γ (both at q (both next r s))) (faulty f)
+  others_of_several : {Γ : Context} {at next : Span} {q r s : Query} {t : Ty} {f : Fault} →
+      Types defs (of_query Γ q) (typed t) → Types defs (of_query Γ (both next r s)) (faulty f) →
       Types defs (of_query Γ (both at q (both next r s))) (faulty f)
   -- an element has the type of its content in it
-  of_element : {Γ : Context} {at n : ℕ} {q : Query} {t : Ty} {o : Outcome} → Types defs (of_query Γ q) (typed t) → concluded at (element n t) ≡ o → Types defs (of_query Γ (query.element at n q)) o
-  content_of_element : {Γ : Context} {at n : ℕ} {q : Query} {f : Fault} → Types defs (of_query Γ q) (faulty f) → Types defs (of_query Γ (query.element at n q)) (faulty f)
+  of_element : {Γ : Context} {at : Span} {n : ℕ} {q : Query} {t : Ty} {o : Outcome} →
+      Types defs (of_query Γ q) (typed t) → concluded at.from (element n t) ≡ o →
+      Types defs (of_query Γ (query.element at n q)) o
+  content_of_element : {Γ : Context} {at : Span} {n : ℕ} {q : Query} {f : Fault} →
+      Types defs (of_query Γ q) (faulty f) →
+      Types defs (of_query Γ (query.element at n q)) (faulty f)
   -- an atom has its kind
-  of_literal : {Γ : Context} {at : ℕ} (x : Atom) → Types defs (of_query Γ (literal at x)) (typed (atom (kind_of x)))
+  of_literal : {Γ : Context} {at : Span} →
+      (x : Atom) → Types defs (of_query Γ (literal at x)) (typed (atom (kind_of x)))
   -- a variable has the type that it was bound to last
-  of_variable : {Γ : Context} {at : ℕ} {x : Var} {t : Ty} → found Γ x ≡ Some t → Types defs (of_query Γ (variable at x)) (typed t)
-  of_no_variable : {Γ : Context} {at : ℕ} {x : Var} → found Γ x ≡ None → Types defs (of_query Γ (variable at x)) (faulty (unknown_variable at))
+  of_variable : {Γ : Context} {at : Span} {x : Var} {t : Ty} →
+      found Γ x ≡ Some t → Types defs (of_query Γ (variable at x)) (typed t)
+  of_no_variable : {Γ : Context} {at : Span} {x : Var} →
+      found Γ x ≡ None → Types defs (of_query Γ (variable at x)) (faulty (unknown_variable at.from))
   -- a body is typed with a variable of the type of another query
-  of_binding : {Γ : Context} {at : ℕ} {x : Var} {q r : Query} {t : Ty} {o : Outcome} → Types defs (of_query Γ q) (typed t) → Types defs (of_query ((x, t) ∷ Γ) r) o → Types defs (of_query Γ (binding at x q r)) o
-  bound_of_binding : {Γ : Context} {at : ℕ} {x : Var} {q r : Query} {f : Fault} → Types defs (of_query Γ q) (faulty f) → Types defs (of_query Γ (binding at x q r)) (faulty f)
+  of_binding : {Γ : Context} {at : Span} {x : Var} {q r : Query} {t : Ty} {o : Outcome} →
+      Types defs (of_query Γ q) (typed t) → Types defs (of_query ((x, t) ∷ Γ) r) o →
+      Types defs (of_query Γ (binding at x q r)) o
+  bound_of_binding : {Γ : Context} {at : Span} {x : Var} {q r : Query} {f : Fault} →
+      Types defs (of_query Γ q) (faulty f) → Types defs (of_query Γ (binding at x q r)) (faulty f)
   -- a choice has either type of its parts, where its condition is a truth value
-  of_choice : {Γ : Context} {at : ℕ} {c q r : Query} {t u w : Ty} {o : Outcome} → Types defs (of_query Γ c) (typed t) → Included defs t (atom kind.Bool) →
-      Types defs (of_query Γ q) (typed u) → Types defs (of_query Γ r) (typed w) → concluded at (alt u w) ≡ o → Types defs (of_query Γ (choice at c q r)) o
-  condition_of_choice : {Γ : Context} {at : ℕ} {c q r : Query} {f : Fault} → Types defs (of_query Γ c) (faulty f) → Types defs (of_query Γ (choice at c q r)) (faulty f)
-  no_truth_of_choice : {Γ : Context} {at : ℕ} {c q r : Query} {t : Ty} (v : Plain) → Types defs (of_query Γ c) (typed t) → Member defs v t → ¬ (Member defs v (atom kind.Bool)) →
-      Types defs (of_query Γ (choice at c q r)) (faulty (not_bool (place_of c) t))
-  yes_of_choice : {Γ : Context} {at : ℕ} {c q r : Query} {t : Ty} {f : Fault} → Types defs (of_query Γ c) (typed t) → Included defs t (atom kind.Bool) →
+  of_choice : {Γ : Context} {at : Span} {c q r : Query} {t u w : Ty} {o : Outcome} →
+      Types defs (of_query Γ c) (typed t) → Included defs t (atom kind.Bool) →
+      Types defs (of_query Γ q) (typed u) → Types defs (of_query Γ r) (typed w) →
+      concluded at.from (alt u w) ≡ o → Types defs (of_query Γ (choice at c q r)) o
+  condition_of_choice : {Γ : Context} {at : Span} {c q r : Query} {f : Fault} →
+      Types defs (of_query Γ c) (faulty f) → Types defs (of_query Γ (choice at c q r)) (faulty f)
+  no_truth_of_choice : {Γ : Context} {at : Span} {c q r : Query} {t : Ty} →
+      (v : Plain) → Types defs (of_query Γ c) (typed t) → Member defs v t →
+      ¬ (Member defs v (atom kind.Bool)) →
+      Types defs (of_query Γ (choice at c q r)) (faulty (not_bool (place_of c) t (atom kind.Bool)))
+  yes_of_choice : {Γ : Context} {at : Span} {c q r : Query} {t : Ty} {f : Fault} →
+      Types defs (of_query Γ c) (typed t) → Included defs t (atom kind.Bool) →
       Types defs (of_query Γ q) (faulty f) → Types defs (of_query Γ (choice at c q r)) (faulty f)
-  no_of_choice : {Γ : Context} {at : ℕ} {c q r : Query} {t u : Ty} {f : Fault} → Types defs (of_query Γ c) (typed t) → Included defs t (atom kind.Bool) →
-      Types defs (of_query Γ q) (typed u) → Types defs (of_query Γ r) (faulty f) → Types defs (of_query Γ (choice at c q r)) (faulty f)
+  no_of_choice : {Γ : Context} {at : Span} {c q r : Query} {t u : Ty} {f : Fault} →
+      Types defs (of_query Γ c) (typed t) → Included defs t (atom kind.Bool) →
+      Types defs (of_query Γ q) (typed u) → Types defs (of_query Γ r) (faulty f) →
+      Types defs (of_query Γ (choice at c q r)) (faulty f)
   -- whether two values are the same is a truth value
-  of_alike : {Γ : Context} {at : ℕ} {q r : Query} {t u : Ty} → Types defs (of_query Γ q) (typed t) → Types defs (of_query Γ r) (typed u) → Types defs (of_query Γ (alike at q r)) (typed (atom kind.Bool))
-  left_of_alike : {Γ : Context} {at : ℕ} {q r : Query} {f : Fault} → Types defs (of_query Γ q) (faulty f) → Types defs (of_query Γ (alike at q r)) (faulty f)
-  right_of_alike : {Γ : Context} {at : ℕ} {q r : Query} {t : Ty} {f : Fault} → Types defs (of_query Γ q) (typed t) → Types defs (of_query Γ r) (faulty f) → Types defs (of_query Γ (alike at q r)) (faulty f)
+  of_alike : {Γ : Context} {at : Span} {q r : Query} {t u : Ty} →
+      Types defs (of_query Γ q) (typed t) → Types defs (of_query Γ r) (typed u) →
+      Types defs (of_query Γ (alike at q r)) (typed (atom kind.Bool))
+  left_of_alike : {Γ : Context} {at : Span} {q r : Query} {f : Fault} →
+      Types defs (of_query Γ q) (faulty f) → Types defs (of_query Γ (alike at q r)) (faulty f)
+  right_of_alike : {Γ : Context} {at : Span} {q r : Query} {t : Ty} {f : Fault} →
+      Types defs (of_query Γ q) (typed t) → Types defs (of_query Γ r) (faulty f) →
+      Types defs (of_query Γ (alike at q r)) (faulty f)
   -- the tree of a variable contains what its type of one tree says, an atom nothing
-  of_child : {Γ : Context} {at n : ℕ} {x : Var} {t u : Ty} → found Γ x ≡ Some t → Single defs t (element n u) → Types defs (of_query Γ (child at x)) (typed u)
-  of_atom_child : {Γ : Context} {at : ℕ} {x : Var} {t : Ty} {k : AtomKind} → found Γ x ≡ Some t → Single defs t (atom k) → Types defs (of_query Γ (child at x)) (typed empty)
-  of_many_child : {Γ : Context} {at : ℕ} {x : Var} {t : Ty} → found Γ x ≡ Some t → IsNotSingle defs t → Types defs (of_query Γ (child at x)) (faulty (not_single at))
-  of_no_child : {Γ : Context} {at : ℕ} {x : Var} → found Γ x ≡ None → Types defs (of_query Γ (child at x)) (faulty (unknown_variable at))
+  of_child : {Γ : Context} {at : Span} {n : ℕ} {x : Var} {t u : Ty} →
+      found Γ x ≡ Some t → Single defs t (element n u) →
+      Types defs (of_query Γ (child at x)) (typed u)
+  of_atom_child : {Γ : Context} {at : Span} {x : Var} {t : Ty} {k : AtomKind} →
+      found Γ x ≡ Some t → Single defs t (atom k) →
+      Types defs (of_query Γ (child at x)) (typed empty)
+  of_many_child : {Γ : Context} {at : Span} {x : Var} {t : Ty} →
+      found Γ x ≡ Some t → IsNotSingle defs t →
+      Types defs (of_query Γ (child at x)) (faulty (not_single at.from))
+  of_no_child : {Γ : Context} {at : Span} {x : Var} →
+      found Γ x ≡ None → Types defs (of_query Γ (child at x)) (faulty (unknown_variable at.from))
   -- the trees that pass a test
-  of_filter : {Γ : Context} {at : ℕ} {q : Query} {p : Test} {t : Ty} {o : Outcome} → Types defs (of_query Γ q) (typed t) → Types defs (of_map at (keeping p) t) o → Types defs (of_query Γ (filter at q p)) o
-  from_of_filter : {Γ : Context} {at : ℕ} {q : Query} {p : Test} {f : Fault} → Types defs (of_query Γ q) (faulty f) → Types defs (of_query Γ (filter at q p)) (faulty f)
+  of_filter : {Γ : Context} {at : Span} {q : Query} {p : Test} {t : Ty} {o : Outcome} →
+      Types defs (of_query Γ q) (typed t) → Types defs (of_map at.from (keeping p) t) o →
+      Types defs (of_query Γ (filter at q p)) o
+  from_of_filter : {Γ : Context} {at : Span} {q : Query} {p : Test} {f : Fault} →
+      Types defs (of_query Γ q) (faulty f) → Types defs (of_query Γ (filter at q p)) (faulty f)
   -- a query for each tree
-  of_each : {Γ : Context} {at : ℕ} {x : Var} {q r : Query} {t : Ty} {o : Outcome} → Types defs (of_query Γ q) (typed t) → Types defs (of_map at (returning Γ x r) t) o → Types defs (of_query Γ (each at x q r)) o
-  over_of_each : {Γ : Context} {at : ℕ} {x : Var} {q r : Query} {f : Fault} → Types defs (of_query Γ q) (faulty f) → Types defs (of_query Γ (each at x q r)) (faulty f)
-  -- an atom type or an element type becomes the type of the query with a variable of it, or it stays where it passes the test
-  returns : {Γ : Context} {at : ℕ} {x : Var} {q : Query} {a t : Ty} {o : Outcome} → IsAtomic a → Types defs (of_query ((x, a) ∷ Γ) q) (typed t) → concluded at t ≡ o → Types defs (of_map at (returning Γ x q) a) o
-  body_of_each : {Γ : Context} {at : ℕ} {x : Var} {q : Query} {a : Ty} {f : Fault} → IsAtomic a → Types defs (of_query ((x, a) ∷ Γ) q) (faulty f) → Types defs (of_map at (returning Γ x q) a) (faulty f)
-  keeps : {at : ℕ} {p : Test} {a : Ty} {o : Outcome} → IsAtomic a → concluded at (kept p a) ≡ o → Types defs (of_map at (keeping p) a) o
+  of_each : {Γ : Context} {at : Span} {x : Var} {q r : Query} {t : Ty} {o : Outcome} →
+      Types defs (of_query Γ q) (typed t) → Types defs (of_map at.from (returning Γ x r) t) o →
+      Types defs (of_query Γ (each at x q r)) o
+  over_of_each : {Γ : Context} {at : Span} {x : Var} {q r : Query} {f : Fault} →
+      Types defs (of_query Γ q) (faulty f) → Types defs (of_query Γ (each at x q r)) (faulty f)
+  -- an atom type or an element type becomes the type of the query with a variable of it, or it
+  -- stays where it passes the test
+  returns : {Γ : Context} {at : ℕ} {x : Var} {q : Query} {a t : Ty} {o : Outcome} →
+      IsAtomic a → Types defs (of_query ((x, a) ∷ Γ) q) (typed t) → concluded at t ≡ o →
+      Types defs (of_map at (returning Γ x q) a) o
+  body_of_each : {Γ : Context} {at : ℕ} {x : Var} {q : Query} {a : Ty} {f : Fault} →
+      IsAtomic a → Types defs (of_query ((x, a) ∷ Γ) q) (faulty f) →
+      Types defs (of_map at (returning Γ x q) a) (faulty f)
+  keeps : {at : ℕ} {p : Test} {a : Ty} {o : Outcome} →
+      IsAtomic a → concluded at (kept p a) ≡ o → Types defs (of_map at (keeping p) a) o
   -- all other types keep their form round what their parts become; a name gives what its body gives
   of_empty : {at : ℕ} {f : Treatment} → Types defs (of_map at f empty) (typed empty)
-  of_seq : {at : ℕ} {g : Treatment} {t u t' u' : Ty} {o : Outcome} → Types defs (of_map at g t) (typed t') → Types defs (of_map at g u) (typed u') → concluded at (seq t' u') ≡ o → Types defs (of_map at g (seq t u)) o
-  left_of_seq : {at : ℕ} {g : Treatment} {t u : Ty} {f : Fault} → Types defs (of_map at g t) (faulty f) → Types defs (of_map at g (seq t u)) (faulty f)
-  right_of_seq : {at : ℕ} {g : Treatment} {t u t' : Ty} {f : Fault} → Types defs (of_map at g t) (typed t') → Types defs (of_map at g u) (faulty f) → Types defs (of_map at g (seq t u)) (faulty f)
-  of_alt : {at : ℕ} {g : Treatment} {t u t' u' : Ty} {o : Outcome} → Types defs (of_map at g t) (typed t') → Types defs (of_map at g u) (typed u') → concluded at (alt t' u') ≡ o → Types defs (of_map at g (alt t u)) o
-  left_of_alt : {at : ℕ} {g : Treatment} {t u : Ty} {f : Fault} → Types defs (of_map at g t) (faulty f) → Types defs (of_map at g (alt t u)) (faulty f)
-  right_of_alt : {at : ℕ} {g : Treatment} {t u t' : Ty} {f : Fault} → Types defs (of_map at g t) (typed t') → Types defs (of_map at g u) (faulty f) → Types defs (of_map at g (alt t u)) (faulty f)
-  of_star : {at : ℕ} {g : Treatment} {t t' : Ty} {o : Outcome} → Types defs (of_map at g t) (typed t') → concluded at (star t') ≡ o → Types defs (of_map at g (star t)) o
-  inside_of_star : {at : ℕ} {g : Treatment} {t : Ty} {f : Fault} → Types defs (of_map at g t) (faulty f) → Types defs (of_map at g (star t)) (faulty f)
-  of_name : {at x : ℕ} {g : Treatment} {t : Ty} {o : Outcome} → body_of defs x ≡ Some t → Types defs (of_map at g t) o → Types defs (of_map at g (named x)) o
+  of_seq : {at : ℕ} {g : Treatment} {t u t' u' : Ty} {o : Outcome} →
+      Types defs (of_map at g t) (typed t') → Types defs (of_map at g u) (typed u') →
+      concluded at (seq t' u') ≡ o → Types defs (of_map at g (seq t u)) o
+  left_of_seq : {at : ℕ} {g : Treatment} {t u : Ty} {f : Fault} →
+      Types defs (of_map at g t) (faulty f) → Types defs (of_map at g (seq t u)) (faulty f)
+  right_of_seq : {at : ℕ} {g : Treatment} {t u t' : Ty} {f : Fault} →
+      Types defs (of_map at g t) (typed t') → Types defs (of_map at g u) (faulty f) →
+      Types defs (of_map at g (seq t u)) (faulty f)
+  of_alt : {at : ℕ} {g : Treatment} {t u t' u' : Ty} {o : Outcome} →
+      Types defs (of_map at g t) (typed t') → Types defs (of_map at g u) (typed u') →
+      concluded at (alt t' u') ≡ o → Types defs (of_map at g (alt t u)) o
+  left_of_alt : {at : ℕ} {g : Treatment} {t u : Ty} {f : Fault} →
+      Types defs (of_map at g t) (faulty f) → Types defs (of_map at g (alt t u)) (faulty f)
+  right_of_alt : {at : ℕ} {g : Treatment} {t u t' : Ty} {f : Fault} →
+      Types defs (of_map at g t) (typed t') → Types defs (of_map at g u) (faulty f) →
+      Types defs (of_map at g (alt t u)) (faulty f)
+  of_star : {at : ℕ} {g : Treatment} {t t' : Ty} {o : Outcome} →
+      Types defs (of_map at g t) (typed t') → concluded at (star t') ≡ o →
+      Types defs (of_map at g (star t)) o
+  inside_of_star : {at : ℕ} {g : Treatment} {t : Ty} {f : Fault} →
+      Types defs (of_map at g t) (faulty f) → Types defs (of_map at g (star t)) (faulty f)
+  of_name : {at x : ℕ} {g : Treatment} {t : Ty} {o : Outcome} →
+      body_of defs x ≡ Some t → Types defs (of_map at g t) o → Types defs (of_map at g (named x)) o
 
 -- each variable that has a type is bound to a member of it
 abbrev pub Suits : Definitions → Context → Environment → Type 0
-Suits defs Γ γ = (x : Var) (t : Ty) → found Γ x ≡ Some t → (v : Plain) × (found γ x ≡ Some v) × Member defs v t
+Suits defs Γ γ =
+    (x : Var) (t : Ty) → found Γ x ≡ Some t → (v : Plain) × (found γ x ≡ Some v) × Member defs v t
 
 -- a query of a type has a value wherever each variable is bound to a member of its type, and the
 -- value is a member of the type
 abbrev pub TypedQueriesHaveValues : Type 0
-TypedQueriesHaveValues = (defs : Definitions) → IsGood defs → (Γ : Context) (γ : Environment) (q : Query) (t : Ty) →
-    Types defs (of_query Γ q) (typed t) → Suits defs Γ γ → (v : Plain) × (value γ q ≡ Some v) × Member defs v t
+TypedQueriesHaveValues =
+    (defs : Definitions) → IsGood defs →
+    (Γ : Context) (γ : Environment) (q : Query) (t : Ty) →
+    Types defs (of_query Γ q) (typed t) → Suits defs Γ γ →
+    (v : Plain) × (value γ q ≡ Some v) × Member defs v t
 
 -- at most one outcome
-abbrev pub TypingIsUnique : Type 0
-TypingIsUnique = (defs : Definitions) (g : Goal) (o p : Outcome) → Types defs g o → Types defs g p → o ≡ p
+abbrev pub QueryTypingIsUnique : Type 0
+QueryTypingIsUnique =
+    (defs : Definitions) (g : Goal) (o p : Outcome) → Types defs g o → Types defs g p → o ≡ p

@@ -5,6 +5,7 @@ use Rattle.std.specs.Prelude.{ℕ, Bool, true, false}
 use Rattle.flux_atom.specs.declared.atom.Atom.{Atom}
 use Rattle.flux_atom.specs.declared.atom.Atom.TheVariants.{Bool as Truth, Text}
 use Rattle.flux_calculus.specs.declared.ask.Test.{Test}
+use Rattle.flux_calculus.specs.declared.ask.Span.{Span}
 use Rattle.flux_calculus.specs.declared.ask.Var.TheVariants.{Made}
 use Rattle.flux_calculus.specs.Query.{and_value, value, value_each, nothing, both, variable, literal, binding, choice, alike, child, filter, each}
 use Rattle.flux_query.specs.Cases.{HasValue}
@@ -19,35 +20,39 @@ each_tree go e f nil = refl
 each_tree go e f (elem _ a c r) = both_some (go (elem tt a c nil)) (value_each go (trees r)) (e a c) (each_tree go e f r)
 each_tree go e f (leaf _ x r) = both_some (go (leaf tt x nil)) (value_each go (trees r)) (f x) (each_tree go e f r)
 
-pub labelled_inside : (t : Test) → HasValue (each 0 (Made 1) (variable 0 (Made 0)) (filter 0 (child 0 (Made 1)) t))
-labelled_inside t v = each_tree (λ u. value ((Made 1, u) ∷ (Made 0, v) ∷ []) (filter 0 (child 0 (Made 1)) t)) (λ a c. refl) (λ x. refl) v
+-- the span of each of their parts
+abbrev start : Span
+start = record { from = 0; to = 0 }
 
-pub all_inside : HasValue (each 0 (Made 1) (variable 0 (Made 0)) (child 0 (Made 1)))
-all_inside v = each_tree (λ u. value ((Made 1, u) ∷ (Made 0, v) ∷ []) (child 0 (Made 1))) (λ a c. refl) (λ x. refl) v
+pub labelled_inside : (t : Test) → HasValue (each start (Made 1) (variable start (Made 0)) (filter start (child start (Made 1)) t))
+labelled_inside t v = each_tree (λ u. value ((Made 1, u) ∷ (Made 0, v) ∷ []) (filter start (child start (Made 1)) t)) (λ a c. refl) (λ x. refl) v
 
-pub compared : (t : List ℕ) (b : Bool) → HasValue (alike 0 (variable 0 (Made 0)) (both 0 (literal 0 (Text t)) (both 0 (literal 0 (Truth b)) (nothing 0))))
+pub all_inside : HasValue (each start (Made 1) (variable start (Made 0)) (child start (Made 1)))
+all_inside v = each_tree (λ u. value ((Made 1, u) ∷ (Made 0, v) ∷ []) (child start (Made 1))) (λ a c. refl) (λ x. refl) v
+
+pub compared : (t : List ℕ) (b : Bool) → HasValue (alike start (variable start (Made 0)) (both start (literal start (Text t)) (both start (literal start (Truth b)) (nothing start))))
 compared t b v = refl
 
-pub twice : (t : List ℕ) (b : Bool) → HasValue (each 0 (Made 1) (both 0 (literal 0 (Text t)) (both 0 (literal 0 (Truth b)) (nothing 0))) (both 0 (variable 0 (Made 1)) (both 0 (variable 0 (Made 1)) (nothing 0))))
+pub twice : (t : List ℕ) (b : Bool) → HasValue (each start (Made 1) (both start (literal start (Text t)) (both start (literal start (Truth b)) (nothing start))) (both start (variable start (Made 1)) (both start (variable start (Made 1)) (nothing start))))
 twice t b v = refl
 
-pub passing : (t : Test) → HasValue (filter 0 (variable 0 (Made 0)) t)
+pub passing : (t : Test) → HasValue (filter start (variable start (Made 0)) t)
 passing t v = refl
 
-pub hidden : (t : List ℕ) → HasValue (both 0 (binding 0 (Made 0) (literal 0 (Text t)) (variable 0 (Made 0))) (both 0 (variable 0 (Made 0)) (nothing 0)))
+pub hidden : (t : List ℕ) → HasValue (both start (binding start (Made 0) (literal start (Text t)) (variable start (Made 0))) (both start (variable start (Made 0)) (nothing start)))
 hidden t v = refl
 
-pub chosen : (b : Bool) (t u : List ℕ) → HasValue (choice 0 (literal 0 (Truth b)) (literal 0 (Text t)) (literal 0 (Text u)))
+pub chosen : (b : Bool) (t u : List ℕ) → HasValue (choice start (literal start (Truth b)) (literal start (Text t)) (literal start (Text u)))
 chosen true t u v = refl
 chosen false t u v = refl
 
-pub joined : (t u : List ℕ) (b : Bool) → HasValue (both 0 (literal 0 (Text t)) (both 0 (literal 0 (Truth b)) (both 0 (literal 0 (Text u)) (nothing 0))))
+pub joined : (t u : List ℕ) (b : Bool) → HasValue (both start (literal start (Text t)) (both start (literal start (Truth b)) (both start (literal start (Text u)) (nothing start))))
 joined t u b v = refl
 
-pub empty : HasValue (nothing 0)
+pub empty : HasValue (nothing start)
 empty v = refl
 
-pub alone : (b : Bool) → HasValue (both 0 (literal 0 (Truth b)) (nothing 0))
+pub alone : (b : Bool) → HasValue (both start (literal start (Truth b)) (nothing start))
 alone b v = refl
 
 pub ruleset cases = (labelled_inside, all_inside, compared, twice, passing, hidden, chosen, joined, empty, alone)

@@ -9,7 +9,7 @@ use Rattle.flux_trees.proofs.SameLaws.{same-Decides}
 use Rattle.flux_trees.proofs.HedgeLaws.{join-nil}
 use Rattle.flux_trees.proofs.DraftLaws.{add-add, add-nil}
 use Rattle.flux_calculus.specs.declared.ask.Test.{Test}
-use Rattle.flux_calculus.specs.Core.{matches}
+use Rattle.flux_calculus.specs.Tests.{matches}
 use Rattle.flux_calculus.specs.Query.{content_of_one, passing}
 
 pub opened-content : (h : Plain) → IsSome (content_of_one h) → content_of_one h ≡ Some (opened h)

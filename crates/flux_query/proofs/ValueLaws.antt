@@ -5,6 +5,7 @@ use Rattle.std.proofs.lemmas.List.{drop_all}
 use Rattle.flux_trees.specs.Hedge.{Plain, join, trees}
 use Rattle.flux_trees.specs.Draft.{done, outer, depth, add, begin, end}
 use Rattle.flux_trees.proofs.DraftLaws.{add-nil, add-add, depth-add, depth-begin, end-begin}
+use Rattle.flux_calculus.specs.declared.ask.Span.{Span}
 use Rattle.flux_calculus.specs.declared.ask.Var.{Var}
 use Rattle.flux_calculus.specs.Query as spec
 use Rattle.flux_calculus.specs.Query.{Environment, and_value, value, value_each}
@@ -41,17 +42,17 @@ element_added (Some v) d b e f n begins h ends =
 
 -- ---- the loop over queries
 
-split_values : (qs : List Query) (i : ℕ) (q : Query) (at : ℕ) (γ : Environment) → i < length qs → q ≡ get_or qs i q
+split_values : (qs : List Query) (i : ℕ) (q : Query) (at : Span) (γ : Environment) → i < length qs → q ≡ get_or qs i q
     → value γ (queries_of at (drop i qs)) ≡ one_more (value γ (query_of q)) (value γ (queries_of at (drop (i + 1) qs)))
 split_values qs i q at γ lt is =
     ap (λ r. value γ (queries_of at r)) (drop-cons qs i q lt ∙ ap₂ (λ x n. x ∷ drop n qs) (sym is) (sym (add-one i)))
 
-pub turn_of_values : (qs : List Query) (i : ℕ) (q : Query) (at : ℕ) (γ : Environment) (d e : PlainDraft) → i < length qs → q ≡ get_or qs i q → added d (value γ (query_of q)) ≡ Some e
+pub turn_of_values : (qs : List Query) (i : ℕ) (q : Query) (at : Span) (γ : Environment) (d e : PlainDraft) → i < length qs → q ≡ get_or qs i q → added d (value γ (query_of q)) ≡ Some e
     → added e (value γ (queries_of at (drop (i + 1) qs))) ≡ added d (value γ (queries_of at (drop i qs)))
 turn_of_values qs i q at γ d e lt is h =
     added_one (value γ (query_of q)) (value γ (queries_of at (drop (i + 1) qs))) d e h ∙ ap (added d) (sym (split_values qs i q at γ lt is))
 
-pub end_of_values : (qs : List Query) (i at : ℕ) (γ : Environment) (d : PlainDraft) → length qs ≤ i → added d (value γ (queries_of at (drop i qs))) ≡ Some d
+pub end_of_values : (qs : List Query) (i : ℕ) (at : Span) (γ : Environment) (d : PlainDraft) → length qs ≤ i → added d (value γ (queries_of at (drop i qs))) ≡ Some d
 end_of_values qs i at γ d le = ap (λ r. added d (value γ (queries_of at r))) (drop_all i qs le) ∙ ap Some (add-nil d)
 
 -- ---- the loop over trees

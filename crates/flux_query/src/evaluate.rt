@@ -11,7 +11,7 @@ use crate::trees::{push_passing, push_same, truth};
 use crate::value::{Value, bound, inside};
 use crate::{Env, Query};
 use flux_atom::Name;
-use flux_calculus::Var;
+use flux_calculus::{Span, Var};
 use flux_forest::{Forest, View};
 use std::alloc::{AllocError, Global};
 
@@ -47,7 +47,7 @@ fn push_value(
     ensures unchanged { env.new ≡ env.old }
 {
     match query {
-        Query::Concat(parts, span) => push_values(alloc, parts.as_slice(), span.from, env, values),
+        Query::Concat(parts, span) => push_values(alloc, parts.as_slice(), *span, env, values),
         Query::Elem(name, content, _) => push_element(alloc, content.get(), *name, env, values),
         Query::Lit(atom, _) => {
             let atom = flux_atom::copy(alloc, atom)?;
@@ -88,7 +88,7 @@ fn push_value(
 fn push_values(
     alloc: Global,
     queries: &[Query],
-    at: u32,
+    at: Span,
     env: &mut Env,
     values: &mut Forest,
 ) -> Result<(), AllocError>

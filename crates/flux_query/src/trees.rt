@@ -5,7 +5,7 @@ ghost use Rattle.flux_trees.specs.Same.{same};
 ghost use Rattle.flux_atom.specs.declared.atom.Atom.TheVariants.{Bool};
 ghost use Rattle.flux_trees.specs.Draft.{add};
 ghost use Rattle.flux_forest.specs.View.{forest_of};
-ghost use Rattle.flux_calculus.specs.Core.{matches};
+ghost use Rattle.flux_calculus.specs.Tests.{matches};
 ghost use Rattle.flux_calculus.specs.Query.{truth_of, content_of_one, passing};
 
 use flux_atom::Atom;

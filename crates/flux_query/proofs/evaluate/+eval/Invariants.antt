@@ -8,7 +8,7 @@ use Rattle.flux_query.proofs.evaluate.+eval.Given as goal
 abbrev pub invariant-push_values-loop-query : goal.invariant-push_values-loop-query
 invariant-push_values-loop-query l = record {
   same : l.env ≡ l.fn.env;
-  so_far : added l.values (value l.fn.env (queries_of l.at (drop l.query-index l.queries))) ≡ added l.fn.values (value l.fn.env (queries_of l.at l.queries));
+  so_far : added l.values (value l.fn.env (queries_of l.fn.at (drop l.query-index l.queries))) ≡ added l.fn.values (value l.fn.env (queries_of l.fn.at l.queries));
 }
 
 abbrev pub invariant-push_each-loop-tree : goal.invariant-push_each-loop-tree

@@ -1,4 +1,4 @@
-use Rattle.flux_calculus.specs.Core.{matches}
+use Rattle.flux_calculus.specs.Tests.{matches}
 use Rattle.flux_forest.specs.View.{forest_of}
 use Rattle.flux_query.proofs.TreeLaws.{failing}
 use Rattle.flux_query.proofs.trees.push_if_passing.Goals as goal
