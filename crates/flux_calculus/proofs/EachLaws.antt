@@ -17,13 +17,13 @@ use Rattle.flux_calculus.specs.Derives.{bound_first, bound_to, Derives, DerivesE
 use Rattle.flux_calculus.specs.Brings.{Holds, AllHold, QueryBrings, QueriesBring, CoreBrings, ProcsBring}
 
 module _ (P : ℕ → Type 0) where
-  labels-join : (v w : Plain) → EachLabel P v → EachLabel P w → EachLabel P (join v w)
+  pub labels-join : (v w : Plain) → EachLabel P v → EachLabel P w → EachLabel P (join v w)
   labels-join nil w a b = b
   labels-join (elem _ n c r) w a b = (a.0, a.1, labels-join r w a.2 b)
   labels-join (leaf _ x r) w a b = labels-join r w a b
 
 module _ (Q : Atom → Type 0) where
-  atoms-join : (v w : Plain) → EachAtom Q v → EachAtom Q w → EachAtom Q (join v w)
+  pub atoms-join : (v w : Plain) → EachAtom Q v → EachAtom Q w → EachAtom Q (join v w)
   atoms-join nil w a b = b
   atoms-join (elem _ n c r) w a b = (a.0, atoms-join r w a.1 b)
   atoms-join (leaf _ x r) w a b = (a.0, atoms-join r w a.1 b)

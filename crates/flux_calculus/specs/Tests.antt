@@ -17,10 +17,8 @@ element_matches OfBool a = false
 
 -- whether an atom of this kind passes: `string()` is passed by texts, `bool()` by truth values
 abbrev pub kind_matches : Test → AtomKind → Bool
-kind_matches (Label n) kind.Bool = false
-kind_matches (Label n) kind.Text = false
-kind_matches AnyElement kind.Bool = false
-kind_matches AnyElement kind.Text = false
+kind_matches (Label n) k = false
+kind_matches AnyElement k = false
 kind_matches OfText kind.Bool = false
 kind_matches OfText kind.Text = true
 kind_matches OfBool kind.Bool = true

@@ -1,6 +1,7 @@
 pub mod Held
 pub mod PathLaws
 pub mod Interned
+mod Kept
 pub mod Preparing
 pub mod Answering
 pub mod Pruned

@@ -8,9 +8,8 @@ use Rattle.flux_io.specs.Outside.{Held, file, Rose}
 use Rattle.flux_atom.specs.Names.{IsName}
 use Rattle.flux_trees.specs.Hedge.{Plain}
 use Rattle.flux_doctext.specs.Text.{text, name_text}
-use Rattle.flux_calculus.specs.Core.{standard}
 use Rattle.flux_calculus.specs.Derives.{Derives}
-use Rattle.flux_calculus.specs.Paths.{delete_on}
+use Rattle.flux_top.specs.Paths.{standard, delete_on}
 use Rattle.flux_top.specs.Script.{DeletesPath}
 use Rattle.flux_doctext.specs.Spells.{Spells}
 use Rattle.flux_top.specs.declared.position.Position.{Position}
@@ -81,7 +80,7 @@ module _ (words : List (List ℕ)) (s d : List ℕ) (is : form words ≡ Some (s
 
   -- nothing is refused
   pub prepared : (holds : Option Held) (names : List (List ℕ)) (path : List ℕ) (document output : List ℕ) (v w : Plain) → IfSome holds (λ held. AsksDeletion held words (map (name_text names) path))
-      → IfSome holds (λ held. file held d ≡ Some document) → length document ≤ document_limit → Spells names document v → Derives standard v (delete_on path) w → output ≡ text names w ++ 10 ∷ []
+      → IfSome holds (λ held. file held d ≡ Some document) → length document ≤ document_limit → Spells names document v → Derives [] standard [] v (delete_on path) w → output ≡ text names w ++ 10 ∷ []
       → IsOutput holds words output
   prepared None names path document output v w asked there within spelled derived is_output = tt
   prepared (Some held) names path document output v w asked there within spelled derived is_output =

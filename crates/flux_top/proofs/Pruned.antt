@@ -8,9 +8,10 @@ use Rattle.flux_trees.specs.Hedge.{Plain, nil, elem, leaf, join, size, first, ot
 use Rattle.flux_trees.specs.Draft.{Draft, done, depth, add, begin, end}
 use Rattle.flux_trees.proofs.DraftLaws.{depth-add, depth-begin, depth-end, end-begin, add-add, add-nil}
 use Rattle.flux_calculus.specs.declared.ask.Test.TheVariants.{Label}
-use Rattle.flux_calculus.specs.Core.{Context, Core, delete, test, children}
+use Rattle.flux_calculus.specs.Query.{Environment}
+use Rattle.flux_calculus.specs.Core.{Core, Procs, delete, test, children}
 use Rattle.flux_calculus.specs.Derives.{Derives, DerivesEach, deletes, tests, passes, enters, iterates, each_end, each_more}
-use Rattle.flux_calculus.specs.Paths.{delete_on}
+use Rattle.flux_top.specs.Paths.{unplaced, delete_on}
 
 abbrev pub PlainDraft : Type 0
 PlainDraft = Draft (Unit {0})
@@ -26,28 +27,28 @@ pruned path nil = nil
 pruned path (elem _ a c r) = join (pruned_element path a c (pruned (drop 1 path) c)) (pruned path r)
 pruned path (leaf _ x r) = leaf tt x (pruned path r)
 
-module _ (γ : Context) where
+module _ (procs : Procs) (d : ℕ) (γ : Environment) where
   -- an element, by a statement that is carried out where its label is n
-  element_derives : (n a : ℕ) (c w : Plain) (s : Core) → (a ≡ n → Derives γ (elem tt a c nil) s w) → Derives γ (elem tt a c nil) (test (Label n) s) (if a == n then w else elem tt a c nil)
-  element_derives n a c w s d = by (a == n) refl
+  element_derives : (n a : ℕ) (c w : Plain) (s : Core) → (a ≡ n → Derives procs d γ (elem tt a c nil) s w) → Derives procs d γ (elem tt a c nil) (test unplaced (Label n) s) (if a == n then w else elem tt a c nil)
+  element_derives n a c w s f = by (a == n) refl
     where
-      by : (b : Bool) → (a == n) ≡ b → Derives γ (elem tt a c nil) (test (Label n) s) (if b then w else elem tt a c nil)
-      by true e = tests refl e (d (grind (arith, nat_tests)))
+      by : (b : Bool) → (a == n) ≡ b → Derives procs d γ (elem tt a c nil) (test unplaced (Label n) s) (if b then w else elem tt a c nil)
+      by true e = tests refl e (f (grind (arith, nat_tests)))
       by false e = passes refl e
 
-  last_derives : (n : ℕ) (v : Plain) → DerivesEach γ (trees v) (test (Label n) delete) (pruned (n ∷ []) v)
+  last_derives : (n : ℕ) (v : Plain) → DerivesEach procs d γ (trees v) (test unplaced (Label n) (delete unplaced)) (pruned (n ∷ []) v)
   last_derives n nil = each_end
-  last_derives n (elem _ a c r) = each_more (element_derives n a c nil delete (λ e. deletes)) (last_derives n r) refl
+  last_derives n (elem _ a c r) = each_more (element_derives n a c nil (delete unplaced) (λ e. deletes)) (last_derives n r) refl
   last_derives n (leaf _ x r) = each_more (passes refl refl) (last_derives n r) refl
 
-  step_derives : (n m : ℕ) (path : List ℕ) → ((c : Plain) → Derives γ c (delete_on (m ∷ path)) (pruned (m ∷ path) c)) → (v : Plain) → DerivesEach γ (trees v) (test (Label n) (children (delete_on (m ∷ path)))) (pruned (n ∷ m ∷ path) v)
+  step_derives : (n m : ℕ) (path : List ℕ) → ((c : Plain) → Derives procs d γ c (delete_on (m ∷ path)) (pruned (m ∷ path) c)) → (v : Plain) → DerivesEach procs d γ (trees v) (test unplaced (Label n) (children unplaced (delete_on (m ∷ path)))) (pruned (n ∷ m ∷ path) v)
   step_derives n m path ih nil = each_end
   step_derives n m path ih (elem _ a c r) =
-      each_more (element_derives n a c (elem tt a (pruned (m ∷ path) c) nil) (children (delete_on (m ∷ path))) (λ e. enters (ih c))) (step_derives n m path ih r) refl
+      each_more (element_derives n a c (elem tt a (pruned (m ∷ path) c) nil) (children unplaced (delete_on (m ∷ path))) (λ e. enters (ih c))) (step_derives n m path ih r) refl
   step_derives n m path ih (leaf _ x r) = each_more (passes refl refl) (step_derives n m path ih r) refl
 
   -- the deletion of a path makes the pruned forest
-  pub pruned_derives : (path : List ℕ) → 0 < length path → (v : Plain) → Derives γ v (delete_on path) (pruned path v)
+  pub pruned_derives : (path : List ℕ) → 0 < length path → (v : Plain) → Derives procs d γ v (delete_on path) (pruned path v)
   pruned_derives [] some v = absurd (omega (arith, some))
   pruned_derives (n ∷ []) some v = iterates (last_derives n v)
   pruned_derives (n ∷ m ∷ path) some v = iterates (step_derives n m path (λ c. pruned_derives (m ∷ path) (omega arith) c) v)

@@ -18,9 +18,8 @@ use Rattle.flux_doctext.specs.Spells.{Spells, IsViable}
 use Rattle.flux_top.proofs.Spelled.{spelled_alike, spelled_labels}
 use Rattle.flux_top.proofs.Places.{position_one, longest_one}
 use Rattle.flux_top.specs.Places.{IsPosition}
-use Rattle.flux_calculus.specs.Core.{standard}
 use Rattle.flux_calculus.specs.Derives.{Derives}
-use Rattle.flux_calculus.specs.Paths.{delete_on}
+use Rattle.flux_top.specs.Paths.{standard, delete_on}
 use Rattle.flux_calculus.proofs.Agree.{derives_one}
 use Rattle.flux_top.specs.Script.{IsStep, IsLine, EndsInNewline, DeletesPath}
 use Rattle.flux_top.specs.Answer.{Answer, usage, long_script, other_script, IsNoForest, long_document, no_forest, done}
@@ -114,12 +113,12 @@ module _ (names others : List (List ℕ)) (table : IsTable names) (other_table :
 
 -- the text of the result is one, whatever the tables are
 result_one : (names others : List (List ℕ)) (path other : List ℕ) (script document : List ℕ) (v v' w w' : Plain) → DeletesPath script (map (name_text names) path) → DeletesPath script (map (name_text others) other)
-    → Spells names document v → Spells others document v' → Derives standard v (delete_on path) w → Derives standard v' (delete_on other) w' → text names w ≡ text others w'
+    → Spells names document v → Spells others document v' → Derives [] standard [] v (delete_on path) w → Derives [] standard [] v' (delete_on other) w' → text names w ≡ text others w'
 result_one names others path other script document v v' w w' is are spelled other_spelled derived other_derived =
     let forests = spelled_alike names others document v v' spelled other_spelled in
     let paths = path_alike names others path other is.each are.each (steps_one script _ _ is are) in
-    let left : w ≡ pruned path v = derives_one derived (pruned_derives standard path (steps_some script names path is) v) in
-    let right : w' ≡ pruned other v' = derives_one other_derived (pruned_derives standard other (steps_some script others other are) v') in
+    let left : w ≡ pruned path v = derives_one derived (pruned_derives [] standard [] path (steps_some script names path is) v) in
+    let right : w' ≡ pruned other v' = derives_one other_derived (pruned_derives [] standard [] other (steps_some script others other are) v') in
     let results = pruned_alike names others spelled.table other_spelled.table paths forests (spelled_labels names document v spelled) (spelled_labels others document v' other_spelled) in
     ap (text names) left ∙ alike_text results ∙ sym (ap (text others) right)
 

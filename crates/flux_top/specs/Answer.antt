@@ -5,9 +5,8 @@ use Rattle.flux_trees.specs.Hedge.{Plain}
 use Rattle.flux_doctext.specs.Text.{text, name_text}
 use Rattle.flux_doctext.specs.Spells.{Spells}
 use Rattle.flux_doctext.specs.Documents.{IsNoDocument}
-use Rattle.flux_calculus.specs.Core.{standard}
 use Rattle.flux_calculus.specs.Derives.{Derives}
-use Rattle.flux_calculus.specs.Paths.{delete_on}
+use Rattle.flux_top.specs.Paths.{standard, delete_on}
 use Rattle.flux_top.specs.Words.{form}
 use Rattle.flux_top.specs.Lines.{status_of, line_of}
 use Rattle.flux_top.specs.Script.{DeletesPath}
@@ -63,7 +62,7 @@ pub data Answer (held : Held) (words : List (List ℕ)) : Status → List ℕ �
   no_forest : {steps : List (List ℕ)} {document : List ℕ} {p : Position} → AsksDeletion held words steps → NamesDocument held words document → length document ≤ document_limit
       → IsNoForest document p → Answer held words (status_of (NoForest p)) [] (line_of (NoForest p))
   done : {document : List ℕ} {names : List (List ℕ)} (path : List ℕ) {v w : Plain} → AsksDeletion held words (map (name_text names) path) → NamesDocument held words document
-      → length document ≤ document_limit → Spells names document v → Derives standard v (delete_on path) w
+      → length document ≤ document_limit → Spells names document v → Derives [] standard [] v (delete_on path) w
       → Answer held words Done (text names w ++ 10 ∷ []) []
 
 -- a file whose turn has come isn't there: the script, or the document of a script that is taken

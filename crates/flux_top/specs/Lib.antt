@@ -1,6 +1,7 @@
 pub mod Script
 pub mod Places
 pub mod Words
+pub mod Paths
 pub mod Lines
 pub mod Answer
 pub mod Unique

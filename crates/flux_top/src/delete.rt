@@ -1,11 +1,10 @@
 // The elements on a path deleted.
-ghost use Rattle.std.specs.Prelude.{◌≡◌, ◌≢◌, ◌<◌, length, IfOk, OnOk, OnErr};
+ghost use Rattle.std.specs.Prelude.{◌≡◌, ◌≢◌, ◌<◌, [], length, IfOk, OnOk, OnErr};
 ghost use Rattle.flux_trees.specs.Hedge.{Plain, nil, first, others};
 ghost use Rattle.flux_trees.specs.Draft.{done, add};
 ghost use Rattle.flux_forest.specs.View.{forest_of};
-ghost use Rattle.flux_calculus.specs.Core.{Context};
 ghost use Rattle.flux_calculus.specs.Derives.{Derives};
-ghost use Rattle.flux_calculus.specs.Paths.{delete_on};
+ghost use Rattle.flux_top.specs.Paths.{standard, delete_on};
 
 use flux_atom::Name;
 use flux_forest::{First, Forest, View};
@@ -15,7 +14,8 @@ use std::alloc::{AllocError, Global};
 /// label before it, and so on up to its first label at the top.
 pub fn deleted(alloc: Global, view: View<'_>, path: &[Name]) -> Result<Forest, AllocError>
     requires { 0 < length path.now }
-    ensures { IfOk result (λ forest. (w : Plain) × (forest ≡ done w) × ((γ : Context) → Derives γ (forest_of view.entry) (delete_on path.now) w)) }
+    ensures { IfOk result (λ forest. (w : Plain) × (forest ≡ done w)
+        × Derives [] standard [] (forest_of view.entry) (delete_on path.now) w) }
 {
     let mut result = Forest::new(alloc);
     // what is left at this level, and at each level around it, innermost last

@@ -5,9 +5,8 @@ ghost use Rattle.flux_io.specs.Outside.{file, Lacks, Rose};
 ghost use Rattle.flux_trees.specs.Hedge.{Plain};
 ghost use Rattle.flux_trees.specs.Draft.{done, depth, outer};
 ghost use Rattle.flux_trees.specs.Each.{EachLabel};
-ghost use Rattle.flux_calculus.specs.Core.{standard};
 ghost use Rattle.flux_calculus.specs.Derives.{Derives};
-ghost use Rattle.flux_calculus.specs.Paths.{delete_on};
+ghost use Rattle.flux_top.specs.Paths.{standard, delete_on};
 ghost use Rattle.flux_doctext.specs.Text.{text, name_text};
 ghost use Rattle.flux_top.specs.Script.{DeletesPath};
 ghost use Rattle.flux_doctext.specs.Spells.{Spells};
@@ -82,7 +81,7 @@ fn result_text(
     requires whole { depth forest.now ≡ 0 }
     requires known { EachLabel (λ a. a < length names.now) (outer forest.now) }
     requires some { 0 < length path.now }
-    ensures { IfOk result (λ output. (w : Plain) × Derives standard (outer forest.now) (delete_on path.now) w × (output.items ≡ text names.now w ++ 10 ∷ [])) }
+    ensures { IfOk result (λ output. (w : Plain) × Derives [] standard [] (outer forest.now) (delete_on path.now) w × (output.items ≡ text names.now w ++ 10 ∷ [])) }
 {
     let result = deleted(alloc, forest.view(), path)?;
     let mut output = Vec::new(alloc);

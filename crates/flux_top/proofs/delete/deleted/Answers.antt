@@ -5,6 +5,7 @@ use Rattle.flux_trees.specs.Hedge.{Plain, nil, elem, content, others, first, siz
 use Rattle.flux_trees.specs.Draft.{done, add}
 use Rattle.flux_forest.specs.declared.view.View.{View}
 use Rattle.flux_forest.specs.View.{forest_of}
+use Rattle.flux_top.specs.Paths.{standard}
 use Rattle.flux_top.proofs.Pruned.{PlainDraft, IsPruning, pruned, pruned_derives, pruning_starts, pruning_ends, end_step, atom_step, other_step, last_step, inner_step, steps_left, steps_left-push}
 use Rattle.flux_top.proofs.delete.deleted.Goals as goal
 use Rattle.flux_top.proofs.delete.deleted.Goals.{After-drop-outer, In_ok-rest-in-Elem, In_ok-rest-in-Atom, Then-len-path, After-content-rest, After-index-path-len}
@@ -23,7 +24,7 @@ ended c =
 
 pub returns-in_default : goal.returns-in_default
 returns-in_default c =
-    (pruned c.args.path.now (forest_of c.args.view), ended c, λ γ. pruned_derives γ c.args.path.now c.requires (forest_of c.args.view))
+    (pruned c.args.path.now (forest_of c.args.view), ended c, pruned_derives [] standard [] c.args.path.now c.requires (forest_of c.args.view))
 
 -- the runs of the outer levels: the innermost was last
 popped : (run : View) (old new : List View) → old ≡ new ++ run ∷ [] → map forest_of old ≡ map forest_of new ++ forest_of run ∷ []

@@ -1,4 +1,4 @@
-use Rattle.std.proofs.Common.{◌≡◌, ◌<◌, ◌≤◌, sym, ap, subst, Some, List, ℕ, length, map, arith}
+use Rattle.std.proofs.Common.{[], ◌≡◌, ◌<◌, ◌≤◌, sym, ap, subst, Some, List, ℕ, length, map, arith}
 use Rattle.std.specs.Prelude.{Option, IfSome}
 use Rattle.std.proofs.lemmas.Result.{err_from_is_err_and}
 use Rattle.flux_io.specs.Outside.{Held, file}
@@ -6,9 +6,8 @@ use Rattle.flux_trees.specs.Draft.{Draft, outer}
 use Rattle.flux_trees.specs.Each.{EachLabel}
 use Rattle.flux_doctext.specs.Text.{name_text}
 use Rattle.flux_doctext.proofs.TextLaws.{labels_within}
-use Rattle.flux_calculus.specs.Core.{standard}
 use Rattle.flux_calculus.specs.Derives.{Derives}
-use Rattle.flux_calculus.specs.Paths.{delete_on}
+use Rattle.flux_top.specs.Paths.{standard, delete_on}
 use Rattle.flux_top.specs.Words.{texts}
 use Rattle.flux_top.specs.Script.{DeletesPath}
 use Rattle.flux_top.proofs.Preparing.{rose_later, refusal_later, early_script, early_path, early_document, early_forest, asks, prepared, steps_stay}
@@ -69,6 +68,6 @@ returns-in-Ok-clause-output g c =
     let asked = asks (texts c.args.words.now) _ _ c.in-Some.ensures _ c.as_slice.result.now (map (name_text c.read_forest.new.names) c.in_ok-path.path.items) (there g before) (within g before) deletes in
     let read_as = c.in_ok-forest.ensures.forest in
     let made = c.in-Ok.ensures in
-    let derived : Derives standard read_as.0 (delete_on c.in_ok-path.path.items) made.0 =
-    subst (λ (l : List ℕ). Derives standard read_as.0 (delete_on l) made.0) c.as_slice-2.ensures.value (subst (λ (d : Draft (Unit {0})). Derives standard (outer d) (delete_on c.as_slice-2.result.now) made.0) read_as.1 made.1) in
+    let derived : Derives [] standard [] read_as.0 (delete_on c.in_ok-path.path.items) made.0 =
+    subst (λ (l : List ℕ). Derives [] standard [] read_as.0 (delete_on l) made.0) c.as_slice-2.ensures.value (subst (λ (d : Draft (Unit {0})). Derives [] standard [] (outer d) (delete_on c.as_slice-2.result.now) made.0) read_as.1 made.1) in
     prepared (texts c.args.words.now) _ _ c.in-Some.ensures _ _ _ c.in_ok-document.document.items _ _ _ asked (document_there g read) c.in_ok-document.ensures.within read_as.2 derived made.2

@@ -3,8 +3,7 @@ use Rattle.flux_trees.specs.Hedge.{Plain}
 use Rattle.flux_trees.specs.Draft.{outer}
 use Rattle.flux_trees.specs.Each.{EachLabel}
 use Rattle.flux_forest.specs.View.{forest_of}
-use Rattle.flux_calculus.specs.Core.{standard}
-use Rattle.flux_calculus.proofs.EachLaws.{derives-labels}
+use Rattle.flux_top.proofs.Kept.{deletion_labels}
 use Rattle.flux_top.proofs.run.result_text.Goals as goal
 
 -- what is left has no labels but those of the whole
@@ -14,4 +13,4 @@ write_forest-requires c =
     let made = c.in_ok-result.ensures in
     let whole : outer c.args.forest.now ≡ forest_of c.view.result = sym (ap outer c.view.ensures) in
     let left : forest_of c.view-2.result ≡ made.0 = ap outer (c.view-2.ensures ∙ made.1) in
-    subst P (sym left) (derives-labels (λ a. a < length c.args.names.now) (made.2 standard) (subst P whole c.requires.known))
+    subst P (sym left) (deletion_labels (λ a. a < length c.args.names.now) c.args.path.now made.2 (subst P whole c.requires.known))
