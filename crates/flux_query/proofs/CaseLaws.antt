@@ -5,10 +5,9 @@ use Rattle.std.specs.Prelude.{ℕ, Bool, true, false}
 use Rattle.flux_atom.specs.declared.atom.Atom.{Atom}
 use Rattle.flux_atom.specs.declared.atom.Atom.TheVariants.{Bool as Truth, Text}
 use Rattle.flux_calculus.specs.declared.ask.Test.{Test}
-use Rattle.flux_calculus.specs.declared.ask.Span.{Span}
 use Rattle.flux_calculus.specs.declared.ask.Var.TheVariants.{Made}
-use Rattle.flux_calculus.specs.Query.{and_value, value, value_each, nothing, both, variable, literal, binding, choice, alike, child, filter, each}
-use Rattle.flux_query.specs.Cases.{HasValue}
+use Rattle.flux_calculus.specs.Query.{and_value, value, value_each, nothing, both, element, variable, literal, binding, choice, alike, child, filter, each}
+use Rattle.flux_query.specs.Cases.{HasValue, start}
 
 both_some : (o p : Option Plain) → IsSome o → IsSome p → IsSome (and_value o (λ v. and_value p (λ w. Some (join v w))))
 both_some None p e f = cc
@@ -19,10 +18,6 @@ each_tree : (go : Plain → Option Plain) → ((a : ℕ) (c : Plain) → IsSome 
 each_tree go e f nil = refl
 each_tree go e f (elem _ a c r) = both_some (go (elem tt a c nil)) (value_each go (trees r)) (e a c) (each_tree go e f r)
 each_tree go e f (leaf _ x r) = both_some (go (leaf tt x nil)) (value_each go (trees r)) (f x) (each_tree go e f r)
-
--- the span of each of their parts
-abbrev start : Span
-start = record { from = 0; to = 0 }
 
 pub labelled_inside : (t : Test) → HasValue (each start (Made 1) (variable start (Made 0)) (filter start (child start (Made 1)) t))
 labelled_inside t v = each_tree (λ u. value ((Made 1, u) ∷ (Made 0, v) ∷ []) (filter start (child start (Made 1)) t)) (λ a c. refl) (λ x. refl) v
@@ -55,4 +50,7 @@ empty v = refl
 pub alone : (b : Bool) → HasValue (both start (literal start (Truth b)) (nothing start))
 alone b v = refl
 
-pub ruleset cases = (labelled_inside, all_inside, compared, twice, passing, hidden, chosen, joined, empty, alone)
+pub wrapped : (n : ℕ) → HasValue (element start n (variable start (Made 0)))
+wrapped n v = refl
+
+pub ruleset cases = (wrapped, labelled_inside, all_inside, compared, twice, passing, hidden, chosen, joined, empty, alone)

@@ -92,7 +92,8 @@ impl Env {
 fn last(bindings: &[Binding], var: Var) -> Option<&Binding>
     requires { AreWhole bindings.now }
     ensures whole { IfSome result (λ binding. depth binding.now.value ≡ 0) }
-    ensures some { IfSome result (λ binding. found (environment_of bindings.now) var ≡ Some (outer binding.now.value)) }
+    ensures some { IfSome result (λ binding.
+        found (environment_of bindings.now) var ≡ Some (outer binding.now.value)) }
     ensures none { IfNone result (found (environment_of bindings.now) var ≡ None) }
 {
     for binding in bindings.iter().rev() {

@@ -25,7 +25,8 @@ use std::alloc::{AllocError, Global};
 #[cycle(eval)]
 pub fn eval(alloc: Global, query: &Query, env: &mut Env) -> Result<Forest, AllocError>
     requires { IsSome (value env.old (query_of query.now)) }
-    ensures value { IfOk result (λ forest. value env.old (query_of query.now) ≡ Some (outer forest)) }
+    ensures value { IfOk result (λ forest.
+        value env.old (query_of query.now) ≡ Some (outer forest)) }
     ensures whole { IfOk result (λ forest. depth forest ≡ 0) }
     ensures unchanged { env.new ≡ env.old }
 {
@@ -43,7 +44,8 @@ fn push_value(
     values: &mut Forest,
 ) -> Result<(), AllocError>
     requires { IsSome (value env.old (query_of query.now)) }
-    ensures value { OnOk result (added values.old (value env.old (query_of query.now)) ≡ Some values.new) }
+    ensures value { OnOk result (
+        added values.old (value env.old (query_of query.now)) ≡ Some values.new) }
     ensures unchanged { env.new ≡ env.old }
 {
     match query {
@@ -93,7 +95,8 @@ fn push_values(
     values: &mut Forest,
 ) -> Result<(), AllocError>
     requires { IsSome (value env.old (queries_of at queries.now)) }
-    ensures value { OnOk result (added values.old (value env.old (queries_of at queries.now)) ≡ Some values.new) }
+    ensures value { OnOk result (
+        added values.old (value env.old (queries_of at queries.now)) ≡ Some values.new) }
     ensures unchanged { env.new ≡ env.old }
 {
     for query in queries {
@@ -112,7 +115,9 @@ fn push_element(
     values: &mut Forest,
 ) -> Result<(), AllocError>
     requires { IsSome (value env.old (query_of content.now)) }
-    ensures value { OnOk result (added values.old (in_element name (value env.old (query_of content.now))) ≡ Some values.new) }
+    ensures value { OnOk result (
+        added values.old (in_element name (value env.old (query_of content.now)))
+        ≡ Some values.new) }
     ensures unchanged { env.new ≡ env.old }
 {
     values.begin_element(name)?;
@@ -133,7 +138,9 @@ fn push_under(
 ) -> Result<(), AllocError>
     requires whole { depth bound ≡ 0 }
     requires value { IsSome (value_under env.old x (query_of body.now) (outer bound)) }
-    ensures value { OnOk result (added values.old (value_under env.old x (query_of body.now) (outer bound)) ≡ Some values.new) }
+    ensures value { OnOk result (
+        added values.old (value_under env.old x (query_of body.now) (outer bound))
+        ≡ Some values.new) }
     ensures unchanged { env.new ≡ env.old }
 {
     env.bind(x, bound)?;
@@ -153,7 +160,9 @@ fn push_each(
     values: &mut Forest,
 ) -> Result<(), AllocError>
     requires { IsSome (values_under env.old x (query_of body.now) (forest_of over)) }
-    ensures value { OnOk result (added values.old (values_under env.old x (query_of body.now) (forest_of over.entry)) ≡ Some values.new) }
+    ensures value { OnOk result (
+        added values.old (values_under env.old x (query_of body.now) (forest_of over.entry))
+        ≡ Some values.new) }
     ensures unchanged { env.new ≡ env.old }
 {
     for tree in over.trees() {
@@ -166,7 +175,8 @@ fn push_each(
 #[cycle(eval)]
 fn read(alloc: Global, query: &Query, env: &mut Env) -> Result<Value, AllocError>
     requires { IsSome (value env.old (query_of query.now)) }
-    ensures value { IfOk result (λ read. trees_of env.old read ≡ value env.old (query_of query.now)) }
+    ensures value { IfOk result (λ read.
+        trees_of env.old read ≡ value env.old (query_of query.now)) }
     ensures whole { IfOk result (λ read. IsWholeValue read) }
     ensures unchanged { env.new ≡ env.old }
 {

@@ -4,9 +4,9 @@ ghost use Rattle.flux_trees.specs.Hedge.{Plain};
 ghost use Rattle.flux_trees.specs.Draft.{depth};
 ghost use Rattle.flux_atom.specs.declared.atom.Atom.TheVariants.{Bool, Text as Words};
 ghost use Rattle.flux_calculus.specs.declared.ask.Var.TheVariants.{Made};
-ghost use Rattle.flux_calculus.specs.Query.{value, variable, literal, binding, choice, alike, child, filter, each};
+ghost use Rattle.flux_calculus.specs.Query.{value, element, variable, literal, binding, choice, alike, child, filter, each};
 ghost use Rattle.flux_query.specs.Read.{query_of, queries_of};
-ghost use Rattle.flux_query.specs.Cases.{HasValue};
+ghost use Rattle.flux_query.specs.Cases.{HasValue, start};
 
 use crate::{Env, Query, Span, Test, Var, eval};
 use flux_atom::{Atom, Boxed, Items, Name, Names, Word, is_name};
@@ -51,43 +51,43 @@ fn name(rt: &impl Abort, names: &mut Names, text: &str) -> Result<Name, Fail> {
 }
 
 fn nowhere() -> Span
-    ensures { result.from ≡ 0 }
+    ensures { result ≡ start }
 {
     Span { from: 0, to: 0 }
 }
 
 fn var(x: u32) -> Query
-    ensures { query_of result ≡ variable 0 (Made x) }
+    ensures { query_of result ≡ variable start (Made x) }
 {
     Query::Var(Var::Made(x), nowhere())
 }
 
 fn child_of(x: u32) -> Query
-    ensures { query_of result ≡ child 0 (Made x) }
+    ensures { query_of result ≡ child start (Made x) }
 {
     Query::Child(Var::Made(x), nowhere())
 }
 
 fn truth(truth: bool) -> Query
-    ensures { query_of result ≡ literal 0 (Bool truth) }
+    ensures { query_of result ≡ literal start (Bool truth) }
 {
     Query::Lit(Atom::Bool(truth), nowhere())
 }
 
 fn text(alloc: Global, text: &str) -> Result<Query, AllocError>
-    ensures { IfOk result (λ q. query_of q ≡ literal 0 (Words text.now)) }
+    ensures { IfOk result (λ q. query_of q ≡ literal start (Words text.now)) }
 {
     Ok(Query::Lit(Atom::Text(Word::of(alloc, text)?), nowhere()))
 }
 
 fn list(parts: Vec<Query>) -> Query
-    ensures { query_of result ≡ queries_of 0 parts.items }
+    ensures { query_of result ≡ queries_of start parts.items }
 {
     Query::Concat(Items::from_vec(parts), nowhere())
 }
 
 fn for_each(alloc: Global, x: u32, over: Query, body: Query) -> Result<Query, AllocError>
-    ensures { IfOk result (λ q. query_of q ≡ each 0 (Made x) (query_of over) (query_of body)) }
+    ensures { IfOk result (λ q. query_of q ≡ each start (Made x) (query_of over) (query_of body)) }
 {
     Ok(Query::For(
         Var::Made(x),
@@ -97,14 +97,20 @@ fn for_each(alloc: Global, x: u32, over: Query, body: Query) -> Result<Query, Al
     ))
 }
 
+fn inside(alloc: Global, label: Name, content: Query) -> Result<Query, AllocError>
+    ensures { IfOk result (λ q. query_of q ≡ element start label (query_of content)) }
+{
+    Ok(Query::Elem(label, Boxed::new(alloc, content)?, nowhere()))
+}
+
 fn filtered(alloc: Global, from: Query, test: Test) -> Result<Query, AllocError>
-    ensures { IfOk result (λ q. query_of q ≡ filter 0 (query_of from) test) }
+    ensures { IfOk result (λ q. query_of q ≡ filter start (query_of from) test) }
 {
     Ok(Query::Filter(Boxed::new(alloc, from)?, test, nowhere()))
 }
 
 fn same(alloc: Global, left: Query, right: Query) -> Result<Query, AllocError>
-    ensures { IfOk result (λ q. query_of q ≡ alike 0 (query_of left) (query_of right)) }
+    ensures { IfOk result (λ q. query_of q ≡ alike start (query_of left) (query_of right)) }
 {
     Ok(Query::Same(
         Boxed::new(alloc, left)?,
@@ -114,7 +120,8 @@ fn same(alloc: Global, left: Query, right: Query) -> Result<Query, AllocError>
 }
 
 fn bound_to(alloc: Global, x: u32, bound: Query, body: Query) -> Result<Query, AllocError>
-    ensures { IfOk result (λ q. query_of q ≡ binding 0 (Made x) (query_of bound) (query_of body)) }
+    ensures { IfOk result (λ q.
+        query_of q ≡ binding start (Made x) (query_of bound) (query_of body)) }
 {
     Ok(Query::Let(
         Var::Made(x),
@@ -125,7 +132,8 @@ fn bound_to(alloc: Global, x: u32, bound: Query, body: Query) -> Result<Query, A
 }
 
 fn either(alloc: Global, condition: Query, yes: Query, no: Query) -> Result<Query, AllocError>
-    ensures { IfOk result (λ q. query_of q ≡ choice 0 (query_of condition) (query_of yes) (query_of no)) }
+    ensures { IfOk result (λ q.
+        query_of q ≡ choice start (query_of condition) (query_of yes) (query_of no)) }
 {
     Ok(Query::If(
         Boxed::new(alloc, condition)?,
@@ -241,6 +249,15 @@ fn alone(alloc: Global) -> Result<Query, AllocError>
     Ok(list(vec![in alloc; truth(true)]?))
 }
 
+// label[0]
+#[tactic(auto, using(crate::proofs::CaseLaws::cases))]
+fn wrapped(alloc: Global, label: Name) -> Result<Query, AllocError>
+    ensures { IfOk result (λ q. HasValue (query_of q)) }
+{
+    let query = inside(alloc, label, var(0))?;
+    Ok(query)
+}
+
 fn author_of_book(rt: &impl Abort, alloc: Global, names: (Name, Name, Name)) -> Result<(), Fail> {
     let (book, title, author) = names;
     let steps = [
@@ -286,6 +303,16 @@ fn shows_what_trees_contain(rt: HostRuntime) -> Result<(), Fail> {
 fn shows_nothing_in_atoms(rt: HostRuntime) -> Result<(), Fail> {
     let alloc = rt.alloc();
     gives(&rt, alloc, &[Text("T")], &all_inside(alloc)?, &[])
+}
+
+#[test]
+fn makes_elements(rt: HostRuntime) -> Result<(), Fail> {
+    let alloc = rt.alloc();
+    let mut names = Names::new(alloc);
+    let a = name(&rt, &mut names, "a")?;
+    let query = wrapped(alloc, a)?;
+    let wanted = [Begin(a), Text("T"), Truth(true), End];
+    gives(&rt, alloc, &[Text("T"), Truth(true)], &query, &wanted)
 }
 
 #[test]

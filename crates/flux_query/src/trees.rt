@@ -51,7 +51,8 @@ pub(crate) fn push_same(
     right: View<'_>,
     values: &mut Forest,
 ) -> Result<(), AllocError>
-    ensures { OnOk result (values.new ≡ add values.old (leaf tt (Bool (same (forest_of left.entry) (forest_of right.entry))) nil)) }
+    ensures { let truth = same (forest_of left.entry) (forest_of right.entry) in
+        OnOk result (values.new ≡ add values.old (leaf tt (Bool truth) nil)) }
 {
     values.push_atom(Atom::Bool(left.equal(right)))?;
     Ok(())
@@ -64,7 +65,8 @@ fn push_if_passing(
     tree: View<'_>,
     values: &mut Forest,
 ) -> Result<(), AllocError>
-    ensures { OnOk result (values.new ≡ add values.old (if matches test.now (forest_of tree.entry) then forest_of tree.entry else nil)) }
+    ensures { let v = forest_of tree.entry in
+        OnOk result (values.new ≡ add values.old (if matches test.now v then v else nil)) }
 {
     if passes(test, tree) {
         values.append(alloc, tree)?;

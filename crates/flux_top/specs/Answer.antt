@@ -52,21 +52,38 @@ pub record IsNoForest (document : List ℕ) (p : Position) : Type 0 where
 
 -- Answer held words status output line: the status, the bytes of the output, the line of a refusal
 pub data Answer (held : Held) (words : List (List ℕ)) : Status → List ℕ → List ℕ → Type 0 where
-  usage : form words ≡ None → Answer held words (status_of WrongWords) [] (line_of WrongWords)
-  long_script : {script : List ℕ} → NamesScript held words script → script_limit < length script
-      → Answer held words (status_of LongScript) [] (line_of LongScript)
-  other_script : {script : List ℕ} → NamesScript held words script → length script ≤ script_limit → ((steps : List (List ℕ)) → ¬ (DeletesPath script steps))
-      → Answer held words (status_of OtherScript) [] (line_of OtherScript)
-  long_document : {steps : List (List ℕ)} {document : List ℕ} → AsksDeletion held words steps → NamesDocument held words document → document_limit < length document
-      → Answer held words (status_of LongDocument) [] (line_of LongDocument)
-  no_forest : {steps : List (List ℕ)} {document : List ℕ} {p : Position} → AsksDeletion held words steps → NamesDocument held words document → length document ≤ document_limit
-      → IsNoForest document p → Answer held words (status_of (NoForest p)) [] (line_of (NoForest p))
-  done : {document : List ℕ} {names : List (List ℕ)} (path : List ℕ) {v w : Plain} → AsksDeletion held words (map (name_text names) path) → NamesDocument held words document
-      → length document ≤ document_limit → Spells names document v → Derives [] standard [] v (delete_on path) w
-      → Answer held words Done (text names w ++ 10 ∷ []) []
+  -- the words are of no form
+  usage : form words ≡ None →
+      Answer held words (status_of WrongWords) [] (line_of WrongWords)
+  -- the script is over its limit; it is within it, and deletes no path
+  long_script : {script : List ℕ} →
+      NamesScript held words script → script_limit < length script →
+      Answer held words (status_of LongScript) [] (line_of LongScript)
+  other_script : {script : List ℕ} →
+      NamesScript held words script → length script ≤ script_limit →
+      ((steps : List (List ℕ)) → ¬ (DeletesPath script steps)) →
+      Answer held words (status_of OtherScript) [] (line_of OtherScript)
+  -- the document is over its limit; it is within it, and spells no forest
+  long_document : {steps : List (List ℕ)} {document : List ℕ} →
+      AsksDeletion held words steps → NamesDocument held words document →
+      document_limit < length document →
+      Answer held words (status_of LongDocument) [] (line_of LongDocument)
+  no_forest : {steps : List (List ℕ)} {document : List ℕ} {p : Position} →
+      AsksDeletion held words steps → NamesDocument held words document →
+      length document ≤ document_limit → IsNoForest document p →
+      Answer held words (status_of (NoForest p)) [] (line_of (NoForest p))
+  -- else the output is the canonical text of the forest that is derived, and a newline
+  done : {document : List ℕ} {names : List (List ℕ)} (path : List ℕ) {v w : Plain} →
+      AsksDeletion held words (map (name_text names) path) → NamesDocument held words document →
+      length document ≤ document_limit → Spells names document v →
+      Derives [] standard [] v (delete_on path) w →
+      Answer held words Done (text names w ++ 10 ∷ []) []
 
 -- a file whose turn has come isn't there: the script, or the document of a script that is taken
 pub data Lacking (held : Held) (words : List (List ℕ)) : Type 0 where
-  no_script : {script_name document_name : List ℕ} → form words ≡ Some (script_name, document_name) → file held script_name ≡ None → Lacking held words
-  no_document : {steps : List (List ℕ)} {script_name document_name : List ℕ} → AsksDeletion held words steps → form words ≡ Some (script_name, document_name)
-      → file held document_name ≡ None → Lacking held words
+  no_script : {script_name document_name : List ℕ} →
+      form words ≡ Some (script_name, document_name) → file held script_name ≡ None →
+      Lacking held words
+  no_document : {steps : List (List ℕ)} {script_name document_name : List ℕ} →
+      AsksDeletion held words steps → form words ≡ Some (script_name, document_name) →
+      file held document_name ≡ None → Lacking held words

@@ -12,7 +12,8 @@ use Rattle.flux_top.specs.declared.refusal.Refusal.TheVariants.{WrongWords, Long
 
 -- the answer has this status
 abbrev pub Answers : Held → List (List ℕ) → Status → Type 0
-Answers held words status = (output : List ℕ) × (line : List ℕ) × Answer held words status output line
+Answers held words status =
+    (output : List ℕ) × (line : List ℕ) × Answer held words status output line
 
 -- the status is that of the answer, or a fault of the outside, or want of memory
 abbrev pub IsStatus : Held → List (List ℕ) → (read_rose write_rose : Type 0) → Status → Type 0
@@ -20,27 +21,32 @@ IsStatus held words read_rose write_rose Done = Answers held words Done
 IsStatus held words read_rose write_rose Script = Answers held words Script
 IsStatus held words read_rose write_rose Usage = Answers held words Usage
 IsStatus held words read_rose write_rose DocText = Answers held words DocText
-IsStatus held words read_rose write_rose ReadFault = (read_rose × IsSome (form words)) ⊎ Lacking held words
+IsStatus held words read_rose write_rose ReadFault =
+    (read_rose × IsSome (form words)) ⊎ Lacking held words
 IsStatus held words read_rose write_rose WriteFault = write_rose × Answers held words Done
 IsStatus held words read_rose write_rose Memory = Unit {0}
 
 -- a run that has something to write, and whose files and output don't fail, is done
 abbrev pub IsComplete : Held → List (List ℕ) → (read_rose write_rose : Type 0) → Status → Type 0
-IsComplete held words read_rose write_rose status = Answers held words Done → ¬ read_rose → ¬ write_rose → (status ≡ Done) ⊎ (status ≡ Memory)
+IsComplete held words read_rose write_rose status =
+    Answers held words Done → ¬ read_rose → ¬ write_rose → (status ≡ Done) ⊎ (status ≡ Memory)
 
 -- a proper prefix of the bytes was appended
 abbrev pub AppendsPart : Option (List ℕ) → Option (List ℕ) → List ℕ → Type 0
-AppendsPart old new bytes = (n : ℕ) × (n < length bytes) × (new ≡ append_known old (take n bytes))
+AppendsPart old new bytes =
+    (n : ℕ) × (n < length bytes) × (new ≡ append_known old (take n bytes))
 
 -- these are the bytes of the answer, where the folder tells what it holds
 abbrev pub IsOutput : Option Held → List (List ℕ) → List ℕ → Type 0
-IsOutput holds words output = IfSome holds (λ held. (line : List ℕ) × Answer held words Done output line)
+IsOutput holds words output = IfSome holds (λ held.
+    (line : List ℕ) × Answer held words Done output line)
 
 -- what a run with that status did to the output
-abbrev pub Writes : (List ℕ → Type 0) → Option (List ℕ) → Option (List ℕ) → Status → Type 0
+abbrev pub Writes : (List ℕ → Type 0) → (old new : Option (List ℕ)) → Status → Type 0
 Writes Is old new Done = (output : List ℕ) × Is output × (new ≡ append_known old output)
 Writes Is old new WriteFault = (output : List ℕ) × Is output × AppendsPart old new output
-Writes Is old new Memory = (new ≡ old) ⊎ ((output : List ℕ) × Is output × AppendsPart old new output)
+Writes Is old new Memory =
+    (new ≡ old) ⊎ ((output : List ℕ) × Is output × AppendsPart old new output)
 Writes Is old new Script = new ≡ old
 Writes Is old new Usage = new ≡ old
 Writes Is old new DocText = new ≡ old
@@ -49,23 +55,35 @@ Writes Is old new ReadFault = new ≡ old
 -- a line of that status, which is that of the answer where the folder tells what it holds
 abbrev pub IsLineOf : Option Held → List (List ℕ) → Status → List ℕ → Type 0
 IsLineOf holds words Usage line = line ≡ line_of WrongWords
-IsLineOf holds words Script line = ((line ≡ line_of LongScript) ⊎ (line ≡ line_of OtherScript)) × IfSome holds (λ held. Answer held words Script [] line)
-IsLineOf holds words DocText line = ((line ≡ line_of LongDocument) ⊎ ((p : Position) × (line ≡ line_of (NoForest p)))) × IfSome holds (λ held. Answer held words DocText [] line)
+IsLineOf holds words Script line =
+    ((line ≡ line_of LongScript) ⊎ (line ≡ line_of OtherScript))
+    × IfSome holds (λ held. Answer held words Script [] line)
+IsLineOf holds words DocText line =
+    ((line ≡ line_of LongDocument) ⊎ ((p : Position) × (line ≡ line_of (NoForest p))))
+    × IfSome holds (λ held. Answer held words DocText [] line)
 IsLineOf holds words ReadFault line = line ≡ line_of NoRead
 IsLineOf holds words WriteFault line = line ≡ line_of NoWrite
 IsLineOf holds words Done line = ⊥
 IsLineOf holds words Memory line = ⊥
 
 -- the line was appended, or a proper prefix of it where the count rose
-abbrev pub Appends : Option (List ℕ) → Option (List ℕ) → (rose : Type 0) → List ℕ → Type 0
-Appends old new rose line = (new ≡ append_known old line) ⊎ (rose × AppendsPart old new line)
+abbrev pub Appends : (old new : Option (List ℕ)) → (rose : Type 0) → List ℕ → Type 0
+Appends old new rose line =
+    (new ≡ append_known old line) ⊎ (rose × AppendsPart old new line)
+
+-- such a line was appended
+abbrev pub ShowsLine : Option Held → List (List ℕ) → (old new : Option (List ℕ)) →
+    (rose : Type 0) → Status → Type 0
+ShowsLine holds words old new rose status =
+    (line : List ℕ) × IsLineOf holds words status line × Appends old new rose line
 
 -- what a run with that status did to the error output
-abbrev pub Shows : Option Held → List (List ℕ) → Option (List ℕ) → Option (List ℕ) → (rose : Type 0) → Status → Type 0
+abbrev pub Shows : Option Held → List (List ℕ) → (old new : Option (List ℕ)) →
+    (rose : Type 0) → Status → Type 0
 Shows holds words old new rose Done = new ≡ old
-Shows holds words old new rose Script = (line : List ℕ) × IsLineOf holds words Script line × Appends old new rose line
-Shows holds words old new rose Usage = (line : List ℕ) × IsLineOf holds words Usage line × Appends old new rose line
-Shows holds words old new rose DocText = (line : List ℕ) × IsLineOf holds words DocText line × Appends old new rose line
-Shows holds words old new rose ReadFault = (line : List ℕ) × IsLineOf holds words ReadFault line × Appends old new rose line
-Shows holds words old new rose WriteFault = (line : List ℕ) × IsLineOf holds words WriteFault line × Appends old new rose line
+Shows holds words old new rose Script = ShowsLine holds words old new rose Script
+Shows holds words old new rose Usage = ShowsLine holds words old new rose Usage
+Shows holds words old new rose DocText = ShowsLine holds words old new rose DocText
+Shows holds words old new rose ReadFault = ShowsLine holds words old new rose ReadFault
+Shows holds words old new rose WriteFault = ShowsLine holds words old new rose WriteFault
 Shows holds words old new rose Memory = Unit {0}

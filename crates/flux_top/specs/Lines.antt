@@ -29,11 +29,15 @@ status_of NoMemory = Memory
 
 -- its line, with the newline that ends it
 abbrev pub line_of : Refusal → List ℕ
-line_of WrongWords = codes "usage: flux check SCRIPT | run [--depth N] SCRIPT DOC | edits [--depth N] SCRIPT DOC | core SCRIPT | trial [--seed N] BOOKS" ++ 10 ∷ []
+line_of WrongWords =
+    codes "usage: flux check SCRIPT | run [--depth N] SCRIPT DOC | edits [--depth N] SCRIPT DOC"
+    ++ codes " | core SCRIPT | trial [--seed N] BOOKS" ++ 10 ∷ []
 line_of LongScript = codes "script: longer than 1048576 bytes" ++ 10 ∷ []
 line_of OtherScript = codes "script: not built yet" ++ 10 ∷ []
 line_of LongDocument = codes "document: longer than 33554432 bytes" ++ 10 ∷ []
-line_of (NoForest p) = codes "document:" ++ (decimal p.line ++ (codes ":" ++ (decimal p.column ++ (codes ": no forest" ++ 10 ∷ []))))
+line_of (NoForest p) =
+    codes "document:"
+    ++ (decimal p.line ++ (codes ":" ++ (decimal p.column ++ (codes ": no forest" ++ 10 ∷ []))))
 line_of NoRead = codes "flux: read fault" ++ 10 ∷ []
 line_of NoWrite = codes "flux: write fault" ++ 10 ∷ []
 line_of NoMemory = codes "flux: out of memory" ++ 10 ∷ []

@@ -16,7 +16,8 @@ IsLine bytes text = (bytes ≡ text) ⊎ (bytes ≡ text ++ 10 ∷ [])
 abbrev pub EndsInNewline : List ℕ → Type 0
 EndsInNewline bytes = (front : List ℕ) × (bytes ≡ front ++ 10 ∷ [])
 
--- the script deletes the elements on the path of these steps: `DELETE `, the steps joined by `/`, an optional newline
+-- the script deletes the elements on the path of these steps: `DELETE `, the steps joined by `/`,
+-- an optional newline
 pub record DeletesPath (script : List ℕ) (steps : List (List ℕ)) : Type 0 where
   pub some : 1 ≤ length steps
   pub each : All IsStep steps
@@ -25,4 +26,5 @@ pub record DeletesPath (script : List ℕ) (steps : List (List ℕ)) : Type 0 wh
 -- the path is what stands behind `DELETE `, in the script without the newline that may end it
 pub record IsPathOf (script path : List ℕ) : Type 0 where
   pub line : IsLine script (codes "DELETE " ++ path)
-  pub ended : (text : List ℕ) → IsLine script text → ¬ (EndsInNewline text) → codes "DELETE " ++ path ≡ text
+  pub ended :
+      (text : List ℕ) → IsLine script text → ¬ (EndsInNewline text) → codes "DELETE " ++ path ≡ text

@@ -6,4 +6,6 @@ use Rattle.flux_top.specs.declared.status.Status.{Status}
 
 -- two answers to the same words, over the same files, have one status, one output and one line
 abbrev pub AnswerIsUnique : Type 0
-AnswerIsUnique = (held : Held) (words : List (List ℕ)) (s t : Status) (o p l m : List ℕ) → Answer held words s o l → Answer held words t p m → (s ≡ t) × (o ≡ p) × (l ≡ m)
+AnswerIsUnique =
+    (held : Held) (words : List (List ℕ)) (s t : Status) (o p l m : List ℕ) →
+    Answer held words s o l → Answer held words t p m → (s ≡ t) × (o ≡ p) × (l ≡ m)

@@ -8,5 +8,6 @@ texts words = map string_bytes words
 
 -- the names of a script and a document, where the words are `run SCRIPT DOC`
 abbrev pub form : List (List ℕ) → Option (List ℕ × List ℕ)
-form (command ∷ script ∷ document ∷ []) = if bytes_eq command (codes "run") then Some (script, document) else None
+form (command ∷ script ∷ document ∷ []) =
+    if bytes_eq command (codes "run") then Some (script, document) else None
 form _ = None

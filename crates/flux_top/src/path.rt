@@ -15,8 +15,11 @@ pub fn read_path(alloc: Global, script: &[u8], names: &mut Names) -> Result<Vec<
     requires { length names.old + length script.now < 2 ^ 32 - 1 }
     ensures table { IsTable names.new }
     ensures room { length names.new ≤ length names.old + length script.now }
-    ensures path { IfOk result (λ path. DeletesPath script.now (map (name_text names.new) path.items)) }
-    ensures refused { IfErr result (λ refusal. (refusal ≡ Refusal.NoMemory) ⊎ ((refusal ≡ Refusal.OtherScript) × ((steps : List (List ℕ)) → ¬ (DeletesPath script.now steps)))) }
+    ensures path { IfOk result (λ path.
+        DeletesPath script.now (map (name_text names.new) path.items)) }
+    ensures refused { IfErr result (λ refusal. (refusal ≡ Refusal.NoMemory)
+        ⊎ ((refusal ≡ Refusal.OtherScript)
+        × ((steps : List (List ℕ)) → ¬ (DeletesPath script.now steps)))) }
 {
     let _held = names.len();
     let steps = match path_steps(alloc, script) {
@@ -35,7 +38,8 @@ fn intern_all(alloc: Global, texts: &[&str], names: &mut Names) -> Result<Vec<Na
     requires room { length names.old + length texts.now < 2 ^ 32 - 1 }
     ensures table { IsTable names.new }
     ensures room { length names.new ≤ length names.old + length texts.now }
-    ensures texts { IfOk result (λ path. map (name_text names.new) path.items ≡ map (λ text. text.now) texts.now) }
+    ensures texts { IfOk result (λ path.
+        map (name_text names.new) path.items ≡ map (λ text. text.now) texts.now) }
 {
     let _held = names.len();
     let mut path = Vec::new(alloc);

@@ -10,8 +10,8 @@ use flux_io::{Refused, Sink, write_all};
 use std::alloc::{AllocError, Global};
 
 // What the command line may be.
-const USAGE: &str =
-    "usage: flux check SCRIPT | run [--depth N] SCRIPT DOC | edits [--depth N] SCRIPT DOC | core SCRIPT | trial [--seed N] BOOKS\n";
+const USAGE: &str = "usage: flux check SCRIPT | run [--depth N] SCRIPT DOC \
+    | edits [--depth N] SCRIPT DOC | core SCRIPT | trial [--seed N] BOOKS\n";
 
 /// Why a run is refused.
 #[derive(Clone, Copy, Debug, PartialEq, Eq)]
@@ -72,7 +72,10 @@ fn no_forest_line(alloc: Global, position: Position) -> Result<String, AllocErro
 /// Writes the line of a refusal, and gives its status, or that of want of memory where the line
 /// finds none. A line that can't be written changes no status.
 pub fn refuse<X: Sink>(alloc: Global, err: &mut X, refusal: Refusal) -> Status
-    ensures status { (result ≡ Status.Memory) ⊎ ((result ≡ status_of refusal) × Appends (X.written err.old) (X.written err.new) (Rose (X.faults err.old) (X.faults err.new)) (line_of refusal)) }
+    ensures status { (result ≡ Status.Memory)
+        ⊎ ((result ≡ status_of refusal)
+        × Appends (X.written err.old) (X.written err.new)
+        (Rose (X.faults err.old) (X.faults err.new)) (line_of refusal)) }
     ensures later { X.faults err.old ≤ X.faults err.new }
 {
     let Ok(line) = refusal.line(alloc) else {

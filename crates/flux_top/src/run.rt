@@ -42,9 +42,11 @@ fn read_file<F: Folder>(
 ) -> Result<Vec<u8>, Refusal>
     ensures same { F.holds folder.new ≡ F.holds folder.old }
     ensures later { F.faults folder.old ≤ F.faults folder.new }
-    ensures whole { IfOk result (λ bytes. IfSome (F.holds folder.old) (λ held. file held name.now ≡ Some bytes.items)) }
+    ensures whole { IfOk result (λ bytes.
+        IfSome (F.holds folder.old) (λ held. file held name.now ≡ Some bytes.items)) }
     ensures within { IfOk result (λ bytes. length bytes.items ≤ limit) }
-    ensures refused { IfErr result (IsFileRefusal (F.holds folder.old) name.now limit too_long (Rose (F.faults folder.old) (F.faults folder.new))) }
+    ensures refused { IfErr result (IsFileRefusal (F.holds folder.old) name.now limit too_long
+        (Rose (F.faults folder.old) (F.faults folder.new))) }
 {
     match read_all(alloc, folder, name, limit) {
         Ok(bytes) => Ok(bytes),
@@ -58,8 +60,10 @@ fn read_file<F: Folder>(
 fn read_forest(alloc: Global, document: Vec<u8>, names: &mut Names) -> Result<Forest, Refusal>
     requires { length names.old + length document.items < 2 ^ 32 - 1 }
     ensures grown { (more : List (List ℕ)) × (names.new ≡ names.old ++ more) }
-    ensures forest { IfOk result (λ forest. (v : Plain) × (forest ≡ done v) × Spells names.new document.items v) }
-    ensures refused { IfErr result (λ refusal. (refusal ≡ Refusal.NoMemory) ⊎ ((p : Position) × (refusal ≡ Refusal.NoForest p) × IsNoForest document.items p)) }
+    ensures forest { IfOk result (λ forest.
+        (v : Plain) × (forest ≡ done v) × Spells names.new document.items v) }
+    ensures refused { IfErr result (λ refusal. (refusal ≡ Refusal.NoMemory)
+        ⊎ ((p : Position) × (refusal ≡ Refusal.NoForest p) × IsNoForest document.items p)) }
 {
     match read_document(alloc, document.as_slice(), names) {
         Ok(forest) => Ok(forest),
@@ -81,7 +85,9 @@ fn result_text(
     requires whole { depth forest.now ≡ 0 }
     requires known { EachLabel (λ a. a < length names.now) (outer forest.now) }
     requires some { 0 < length path.now }
-    ensures { IfOk result (λ output. (w : Plain) × Derives [] standard [] (outer forest.now) (delete_on path.now) w × (output.items ≡ text names.now w ++ 10 ∷ [])) }
+    ensures { IfOk result (λ output.
+        (w : Plain) × Derives [] standard [] (outer forest.now) (delete_on path.now) w
+        × (output.items ≡ text names.now w ++ 10 ∷ [])) }
 {
     let result = deleted(alloc, forest.view(), path)?;
     let mut output = Vec::new(alloc);
@@ -94,9 +100,11 @@ fn result_text(
 fn prepare<F: Folder>(alloc: Global, words: &[String], folder: &mut F) -> Result<Vec<u8>, Refusal>
     ensures same { F.holds folder.new ≡ F.holds folder.old }
     ensures later { F.faults folder.old ≤ F.faults folder.new }
-    ensures output { IfOk result (λ output. IsOutput (F.holds folder.old) (texts words.now) output.items) }
+    ensures output { IfOk result (λ output.
+        IsOutput (F.holds folder.old) (texts words.now) output.items) }
     ensures form { IfOk result (λ output. IsSome (form (texts words.now))) }
-    ensures refused { IfErr result (IsEarlyRefusal (F.holds folder.old) (texts words.now) (Rose (F.faults folder.old) (F.faults folder.new))) }
+    ensures refused { IfErr result (IsEarlyRefusal (F.holds folder.old) (texts words.now)
+        (Rose (F.faults folder.old) (F.faults folder.new))) }
     ensures no_form { form (texts words.now) ≡ None → IsErrOf result Refusal.WrongWords }
 {
     let Some((script, document)) = file_names(words) else {
@@ -129,17 +137,42 @@ pub fn flux<F: Folder, W: Sink, X: Sink>(
     out: &mut W,
     err: &mut X,
 ) -> Status
-    ensures status { IfSome (F.holds folder.old) (λ held. IsStatus held (texts words.now.items) (Rose (F.faults folder.old) (F.faults folder.new)) (Rose (W.faults out.old) (W.faults out.new)) result) }
-    ensures missing { IfSome (F.holds folder.old) (λ held. Lacking held (texts words.now.items) → (result ≡ Status.ReadFault) ⊎ (result ≡ Status.Memory)) }
-    ensures complete { IfSome (F.holds folder.old) (λ held. IsComplete held (texts words.now.items) (Rose (F.faults folder.old) (F.faults folder.new)) (Rose (W.faults out.old) (W.faults out.new)) result) }
+    // Where the folder tells what it holds: the status is that of the answer, but for faults of the
+    // outside and want of memory; a file that isn't there ends in a fault of reading or in want of
+    // memory; a run that has something to write is done, but for these.
+    ensures status { IfSome (F.holds folder.old) (λ held.
+        IsStatus held (texts words.now.items)
+        (Rose (F.faults folder.old) (F.faults folder.new))
+        (Rose (W.faults out.old) (W.faults out.new)) result) }
+    ensures missing { IfSome (F.holds folder.old) (λ held. Lacking held (texts words.now.items) →
+        (result ≡ Status.ReadFault) ⊎ (result ≡ Status.Memory)) }
+    ensures complete { IfSome (F.holds folder.old) (λ held.
+        IsComplete held (texts words.now.items)
+        (Rose (F.faults folder.old) (F.faults folder.new))
+        (Rose (W.faults out.old) (W.faults out.new)) result) }
+
+    // Whatever the folder tells: the words are refused exactly where they are no form, and faults
+    // of reading and of writing come only where they were counted, or a file isn't there.
     ensures usage { result ≡ Status.Usage → form (texts words.now.items) ≡ None }
-    ensures no_form { form (texts words.now.items) ≡ None → (result ≡ Status.Usage) ⊎ (result ≡ Status.Memory) }
-    ensures read_fault { result ≡ Status.ReadFault → (Rose (F.faults folder.old) (F.faults folder.new) × IsSome (form (texts words.now.items))) ⊎ IsSomeAnd (F.holds folder.old) (λ held. Lacking held (texts words.now.items)) }
-    ensures write_fault { result ≡ Status.WriteFault → Rose (W.faults out.old) (W.faults out.new) × IsSome (form (texts words.now.items)) }
-    ensures output { Writes (IsOutput (F.holds folder.old) (texts words.now.items)) (W.written out.old) (W.written out.new) result }
+    ensures no_form { form (texts words.now.items) ≡ None →
+        (result ≡ Status.Usage) ⊎ (result ≡ Status.Memory) }
+    ensures read_fault { result ≡ Status.ReadFault →
+        (Rose (F.faults folder.old) (F.faults folder.new) × IsSome (form (texts words.now.items)))
+        ⊎ IsSomeAnd (F.holds folder.old) (λ held. Lacking held (texts words.now.items)) }
+    ensures write_fault { result ≡ Status.WriteFault →
+        Rose (W.faults out.old) (W.faults out.new) × IsSome (form (texts words.now.items)) }
+
+    // What is written.
+    ensures output { Writes (IsOutput (F.holds folder.old) (texts words.now.items))
+        (W.written out.old) (W.written out.new) result }
+    ensures line { Shows (F.holds folder.old) (texts words.now.items)
+        (X.written err.old) (X.written err.new)
+        (Rose (X.faults err.old) (X.faults err.new)) result }
+
+    // The folder holds what it held, and no count falls.
     ensures same { F.holds folder.new ≡ F.holds folder.old }
-    ensures later { (F.faults folder.old ≤ F.faults folder.new) × (W.faults out.old ≤ W.faults out.new) × (X.faults err.old ≤ X.faults err.new) }
-    ensures line { Shows (F.holds folder.old) (texts words.now.items) (X.written err.old) (X.written err.new) (Rose (X.faults err.old) (X.faults err.new)) result }
+    ensures later { (F.faults folder.old ≤ F.faults folder.new)
+        × (W.faults out.old ≤ W.faults out.new) × (X.faults err.old ≤ X.faults err.new) }
 {
     let output = match prepare(alloc, words.as_slice(), folder) {
         Ok(output) => output,

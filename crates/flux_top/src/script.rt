@@ -10,7 +10,8 @@ use std::str;
 /// The bytes without the newline that may end them.
 pub fn without_newline(bytes: &[u8]) -> &[u8]
     ensures line { IsLine bytes.now result.now }
-    ensures ended { (text : List ℕ) → IsLine bytes.now text → ¬ (EndsInNewline text) → result.now ≡ text }
+    ensures ended { (text : List ℕ) →
+        IsLine bytes.now text → ¬ (EndsInNewline text) → result.now ≡ text }
 {
     match bytes {
         [text @ .., b'\n'] => text,
@@ -20,8 +21,10 @@ pub fn without_newline(bytes: &[u8]) -> &[u8]
 
 /// The steps of the path that the script deletes, or none where it is of another form.
 pub fn path_steps<'s>(alloc: Global, script: &'s [u8]) -> Result<Option<Vec<&'s str>>, AllocError>
-    ensures path { IfOk result (λ found. IfSome found (λ steps. DeletesPath script.now (map (λ step. step.now) steps.items))) }
-    ensures other { IfOk result (λ found. IfNone found ((steps : List (List ℕ)) → ¬ (DeletesPath script.now steps))) }
+    ensures path { IfOk result (λ found. IfSome found (λ steps.
+        DeletesPath script.now (map (λ step. step.now) steps.items))) }
+    ensures other { IfOk result (λ found. IfNone found (
+        (steps : List (List ℕ)) → ¬ (DeletesPath script.now steps))) }
 {
     let Some(path) = path_of(script) else {
         return Ok(None);
@@ -45,7 +48,8 @@ fn path_of(script: &[u8]) -> Option<&[u8]>
 }
 
 fn split_steps<'s>(alloc: Global, path: &'s str) -> Result<Vec<&'s str>, AllocError>
-    ensures { IfOk result (λ steps. map (λ step. step.now) steps.items ≡ slice_split (λ b. b == 47) path.now) }
+    ensures { IfOk result (λ steps.
+        map (λ step. step.now) steps.items ≡ slice_split (λ b. b == 47) path.now) }
 {
     path.split('/').collect(alloc)
 }

@@ -12,8 +12,8 @@ struct Ended {
     err: MemSink,
 }
 
-const USAGE: &str =
-    "usage: flux check SCRIPT | run [--depth N] SCRIPT DOC | edits [--depth N] SCRIPT DOC | core SCRIPT | trial [--seed N] BOOKS\n";
+const USAGE: &str = "usage: flux check SCRIPT | run [--depth N] SCRIPT DOC \
+    | edits [--depth N] SCRIPT DOC | core SCRIPT | trial [--seed N] BOOKS\n";
 
 const SCRIPT: &str = "DELETE lib/book";
 
@@ -113,7 +113,8 @@ fn runs(rt: HostRuntime) -> Result<(), Fail> {
     Ok(())
 }
 
-// Documents that are spelled in other ways, and what isn't one: where its longest viable prefix ends.
+// Documents that are spelled in other ways, and what isn't one, with the end of its longest viable
+// prefix.
 #[test]
 fn reads_documents(rt: HostRuntime) -> Result<(), Fail> {
     let table = [
@@ -242,8 +243,9 @@ fn refuses_other_scripts(rt: HostRuntime) -> Result<(), Fail> {
 
 #[test]
 fn refuses_reserved_words(rt: HostRuntime) -> Result<(), Fail> {
-    let words =
-        "TYPE PROCEDURE INPUT OUTPUT DO SKIP INSERT BEFORE AFTER AS FIRST LAST INTO VALUE DELETE FROM RENAME TO REPLACE IN WITH UPDATE BY IF THEN ELSE LET CALL WHERE for in return let if then else true false";
+    let words = "TYPE PROCEDURE INPUT OUTPUT DO SKIP INSERT BEFORE AFTER AS FIRST LAST INTO VALUE \
+        DELETE FROM RENAME TO REPLACE IN WITH UPDATE BY IF THEN ELSE LET CALL WHERE for in return \
+        let if then else true false";
     for word in words.split(' ') {
         let script = format!(in rt.alloc(); "DELETE a/{word}")?;
         let ended = run(rt.alloc(), script.as_str(), DOCUMENT)?;

@@ -1,6 +1,6 @@
 use super::deleted;
 use flux_atom::{Atom, Name, Names};
-use flux_forest::{First, Forest, View};
+use flux_forest::Forest;
 use std::alloc::{AllocError, Global};
 use std::test::Fail;
 
@@ -31,28 +31,6 @@ fn forest(alloc: Global, labels: &[Name; 3], text: &[u8]) -> Result<Forest, Allo
     Ok(forest)
 }
 
-fn first_label(view: View<'_>) -> Option<Name> {
-    match view.first() {
-        First::Elem(name) => Some(name),
-        First::Nothing => None,
-        First::Atom(_) => None,
-    }
-}
-
-// Node by node in document order, with the sizes of their trees.
-fn are_same(one: View<'_>, other: View<'_>) -> bool {
-    let mut one = one;
-    let mut other = other;
-    while !one.is_empty() && !other.is_empty() {
-        if first_label(one) != first_label(other) || one.first_size() != other.first_size() {
-            return false;
-        }
-        one = one.opened();
-        other = other.opened();
-    }
-    one.is_empty() && other.is_empty()
-}
-
 // Whether the path deleted from the first text leaves the second.
 fn leaves(
     alloc: Global,
@@ -71,7 +49,7 @@ fn leaves(
         return Ok(false);
     }
     let left = deleted(alloc, before.view(), names.as_slice())?;
-    Ok(left.is_whole() && are_same(left.view(), after.view()))
+    Ok(left.is_whole() && left.view().equal(after.view()))
 }
 
 #[test]
