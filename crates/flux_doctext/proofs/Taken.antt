@@ -5,9 +5,10 @@ use Rattle.std.proofs.lemmas.Bool.{false≢true, ne_eqb}
 use Rattle.std.proofs.lemmas.List.Elements.{All-push}
 use Rattle.std.proofs.lemmas.Option.{slice_get-get_or, unwrap_or-slice_get}
 use Rattle.flux_atom.specs.declared.atom.Atom.{Atom}
+use Rattle.flux_atom.specs.declared.text.TextState.TheVariants.{Between}
 use Rattle.flux_atom.specs.Names.{name_text, continues_name, IsName, IsTable, with_text}
 use Rattle.flux_atom.specs.TextSteps.{TextStep, on, closes, misfits, TextRead, text_step, no_text, read_on, and_read as and_text, read_text}
-use Rattle.flux_atom.proofs.TextLaws.{read_then, items_read, closes_at_quote, items_utf8}
+use Rattle.flux_atom.proofs.TextLaws.{read_then, closes_at_quote}
 use Rattle.flux_trees.specs.Hedge.{nil, leaf}
 use Rattle.flux_trees.specs.Draft.{depth, add, begin}
 use Rattle.flux_trees.proofs.DraftLaws.{depth-add}
@@ -127,11 +128,9 @@ text_taken names r s b d are e = record {
   sound = items_on r s b are e;
 }
 
--- the text of a string that is closed
-pub text_utf8 : (r s : TextRead) (b : ℕ) → (items : List ℕ) × (read_text no_text items ≡ Some r) → (text_step r.0 b ≡ closes) × (s ≡ r) → IsUtf8 s.1
-text_utf8 r s b (items, are) (ends, same) =
-    let at : r.0 ≡ _ = (closes_at_quote r.0 b ends).0 in
-    subst (λ q. IsUtf8 q.1) (sym same) (items_utf8 items r.1 (items_read items r.1 (are ∙ ap (λ t. Some (t, r.1)) at)))
+-- a string is closed between two items
+pub text_closed : (r s : TextRead) (b : ℕ) → (text_step r.0 b ≡ closes) × (s ≡ r) → s.0 ≡ Between
+text_closed r s b (ends, same) = ap (λ q. q.0) same ∙ (closes_at_quote r.0 b ends).0
 
 -- the end of the text
 pub name_ends : (text : List ℕ) (x : Atom) (d pushed : PlainDraft) (whole : Bool) → truth_of text ≡ Some x → pushed ≡ add d (leaf tt x nil) → (IsTrue whole ↔ (depth pushed ≡ 0)) → Ends (end_named (truth_of text)) d pushed whole

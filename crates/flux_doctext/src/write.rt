@@ -74,7 +74,7 @@ fn push_trees(
                 rest = element.content();
             }
             First::Atom(atom) => {
-                write_literal(atom, out)?;
+                write_literal(alloc, atom, out)?;
                 let (_, others) = rest.split();
                 push_comma(others, out)?;
                 rest = others;
