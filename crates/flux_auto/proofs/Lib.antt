@@ -5,6 +5,7 @@ pub mod Measures
 pub mod Contents
 pub mod Marking
 pub mod Reading
+pub mod Tasks
 pub mod Closing
 pub mod Making
 pub mod Meaning

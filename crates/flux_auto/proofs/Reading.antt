@@ -44,7 +44,7 @@ module _ (defs : Definitions) where
         | inl l ↦ carried (λ k. IsOwn defs k s r) (length a.rows.items) a b g (λ more. IsOwn-grows defs a.cells.items more s r (f s r le (sym (g.rows s l) ∙ e)))
       ]
 
-  own_none : (a : Table) → OwnFrom defs (length a.rows.items) a
+  pub own_none : (a : Table) → OwnFrom defs (length a.rows.items) a
   own_none a s r le e = absurd (omega (arith, le, slice_get_within a.rows.items s r e))
 
   -- ---- a state that is put last
@@ -60,7 +60,7 @@ module _ (defs : Definitions) where
     longer = omega (arith, ap length p.rows, length-append a.rows.items (p.row ∷ []));
   }
 
-  put-below : (a b : Table) (head : Ty) (tail : ℕ) (ends : Bool) (edges : List Edge) (s : ℕ) → Put a b head tail ends edges s → s < length b.cells.items
+  pub put-below : (a b : Table) (head : Ty) (tail : ℕ) (ends : Bool) (edges : List Edge) (s : ℕ) → Put a b head tail ends edges s → s < length b.cells.items
   put-below a b head tail ends edges s p = slice_get_within b.cells.items s p.cell (put-cell a b head tail ends edges s p)
 
   -- what it stands for, also in a table that grew since
@@ -163,12 +163,12 @@ module _ (defs : Definitions) where
   pub content-list : (cs : List Cell) (s : ℕ) (t : Ty) → at (lists cs) 0 ≡ empty ∷ [] → IsContent cs s t → at (lists cs) s ≡ t ∷ (empty ∷ [])
   content-list cs s t end k = at-cell cs s k.cell k.is (omega (arith, k.tail_is, k.later)) ∙ ap₂ (λ h l. h ∷ l) k.head_is (ap (at (lists cs)) k.tail_is ∙ end)
 
-  pub linear_element : (names : List Bool) (a : Table) (n : ℕ) (t : Ty) (c tail : ℕ) (es : List Edge) → IsGround defs names a → tail < length a.cells.items → IsContent a.cells.items c t → es ≡ Elem n c tail ∷ []
+  pub linear_element : (a : Table) (n : ℕ) (t : Ty) (c tail : ℕ) (es : List Edge) → IsEven a → at (lists a.cells.items) 0 ≡ empty ∷ [] → tail < length a.cells.items → IsContent a.cells.items c t → es ≡ Elem n c tail ∷ []
       → Linear defs a a (element n t) tail es
-  linear_element names a n t c tail es g lt k e =
-      let is = content-list a.cells.items c t g.end k in
+  linear_element a n t c tail es even end lt k e =
+      let is = content-list a.cells.items c t end k in
       subst (Linear defs a a (element n t) tail) (sym e)
-      (linear_here a (element n t) tail (Elem n c tail ∷ []) g.even
+      (linear_here a (element n t) tail (Elem n c tail ∷ []) even
       (record { tail_below = lt; below = ((slice_get_within a.cells.items c k.cell k.is, lt), tt); sound = element_sound a.cells.items n t c tail is; complete = element_complete a.cells.items n t c tail is }))
 
   -- ---- one part after another
@@ -202,7 +202,7 @@ module _ (defs : Definitions) where
   cond-below n false es h = tt
 
   pub linear_seq : (a b c d : Table) (t u : Ty) (tail s : ℕ) (own first all : List Edge) (nulls ends : Bool) → Linear defs a b u tail own → Put b c u tail ends own s → (ends ≡ true) ↔ Member defs nil u
-      → Grows (length c.rows.items) c d → Linear defs c d t s first → (nulls ≡ true) ↔ Member defs nil t → all ≡ first ++ cond nulls own [] → Linear defs a d (seq t u) tail all
+      → Grows (length c.rows.items) c d → Linear defs c d t s first → (nulls ≡ true) ↔ Member defs nil t → all ≡ cond nulls own [] ++ first → Linear defs a d (seq t u) tail all
   linear_seq a b c d t u tail s own first all nulls ends x p is g y null e =
       let bc = put-grows b c u tail ends own s p in
       let ru = reads_on (length b.rows.items) b c u tail own x.reads bc in
@@ -214,14 +214,14 @@ module _ (defs : Definitions) where
         own = own_on (length a.rows.items) c d (own_on (length a.rows.items) b c x.own bc (put-own b c u tail ends own s x.even p x.reads.tail_below ru is)) g y.own;
         reads = record {
           tail_below = r.tail_below;
-          below = edges-append (length d.cells.items) first (cond nulls own []) y.reads.below (cond-below (length d.cells.items) nulls own r.below);
-          sound = λ z h. elim (any-cases defs ts first (cond nulls own []) z h) [
-            | inl k ↦ seq-starts_first defs t u (at ts tail) z (subst (λ l. Starts defs t l z) list (y.reads.sound z k))
-            | inr k ↦ let q = any-cond ts nulls own z k in seq-starts_second defs t u (at ts tail) z (null.0 q.0) (r.sound z q.1)
+          below = edges-append (length d.cells.items) (cond nulls own []) first (cond-below (length d.cells.items) nulls own r.below) y.reads.below;
+          sound = λ z h. elim (any-cases defs ts (cond nulls own []) first z h) [
+            | inr k ↦ seq-starts_first defs t u (at ts tail) z (subst (λ l. Starts defs t l z) list (y.reads.sound z k))
+            | inl k ↦ let q = any-cond ts nulls own z k in seq-starts_second defs t u (at ts tail) z (null.0 q.0) (r.sound z q.1)
           ];
           complete = λ z h. elim (starts-seq defs t u (at ts tail) z h) [
-            | inl k ↦ any-left defs ts first (cond nulls own []) z (y.reads.complete z (subst (λ l. Starts defs t l z) (sym list) k))
-            | inr k ↦ any-right defs ts first (cond nulls own []) z (cond-any ts nulls own z (null.1 k.0) (r.complete z k.1))
+            | inl k ↦ any-right defs ts (cond nulls own []) first z (y.reads.complete z (subst (λ l. Starts defs t l z) (sym list) k))
+            | inr k ↦ any-left defs ts (cond nulls own []) first z (cond-any ts nulls own z (null.1 k.0) (r.complete z k.1))
           ];
         };
       })

@@ -2,6 +2,7 @@ pub mod Takes
 pub mod Automaton
 pub mod Standing
 pub mod Built
+pub mod Pending
 pub mod Arcs
 pub mod Marking
 pub mod Shown

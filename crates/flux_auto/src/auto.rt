@@ -43,8 +43,8 @@ pub(crate) struct Added {
 /// A tree automaton over forests, with a state for each type that was added. The states of a
 /// definition are there once, however often it is used, but where a name stands outside all
 /// elements, those of its body are made anew for what stands behind it. So names that double at
-/// each step, as `X=Y,Y` and `Y=Z,Z` and so on, end in want of memory. Reading a type recurses by
-/// its height, and by the names that lead to names in it.
+/// each step, as `X=Y,Y` and `Y=Z,Z` and so on, end in want of memory. Adding a type recurses by
+/// its height and by that of each body, but by no chain of names.
 #[derive(Drop)]
 pub struct Auto {
     defs: Defs,

@@ -1,9 +1,10 @@
 // Edges for the states that wait for them.
-ghost use Rattle.std.specs.Prelude.{◌≡◌, ◌<◌, ◌≤◌, ℕ, Some, slice_get, length, OnOk};
+ghost use Rattle.std.specs.Prelude.{◌≡◌, ◌<◌, ◌≤◌, ◌++◌, ℕ, Some, slice_get, length, IfOk, OnOk};
 ghost use Rattle.flux_auto.specs.declared.table.Row.{Row};
 ghost use Rattle.flux_auto.specs.Built.{Grows, IsEven, IsGround, IsOwn, OwnFrom, ClosedBelow, Awaits, FreshFrom, Filled, Closed, IsComplete};
 
-use crate::linear::{joined, linear};
+use crate::Edge;
+use crate::linear::linear;
 use crate::names::has_empty;
 use crate::table::{Table, set_row};
 use flux_types::{Defs, copy_of};
@@ -49,6 +50,14 @@ fn fill_all(
         fill(alloc, defs, names, table, state)?;
     }
     Ok(())
+}
+
+// Edges and then more.
+fn joined(mut edges: Vec<Edge>, more: &[Edge]) -> Result<Vec<Edge>, AllocError>
+    ensures { IfOk result (λ all. all.items ≡ edges.items ++ more.now) }
+{
+    edges.extend_from_slice(more)?;
+    Ok(edges)
 }
 
 // Adds the edges of the tail, where the type of the state may be empty.

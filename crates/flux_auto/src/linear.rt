@@ -1,9 +1,10 @@
 // The edges of a type: what a member that isn't empty begins with.
-ghost use Rattle.std.specs.Prelude.{◌≡◌, ◌<◌, ◌++◌, ◌∷◌, [], length, IfOk};
-ghost use Rattle.flux_schema.specs.Ty.{seq, alt, star, named};
+ghost use Rattle.std.specs.Prelude.{◌≡◌, ◌<◌, ◌≤◌, ◌∷◌, [], length, IfOk, OnOk, OnErr};
+ghost use Rattle.flux_schema.specs.Ty.{empty};
 ghost use Rattle.flux_types.specs.Read.{ty_of};
-ghost use Rattle.flux_auto.specs.Standing.{Ready};
-ghost use Rattle.flux_auto.specs.Built.{Grows, IsGround, Linear};
+ghost use Rattle.flux_auto.specs.Standing.{Ready, BodiesReady, at, lists};
+ghost use Rattle.flux_auto.specs.Built.{Grows, IsEven, IsGround, Linear};
+ghost use Rattle.flux_auto.specs.Pending.{Opens, PutsSecond, FillsRow};
 
 use crate::Edge;
 use crate::content::find;
@@ -12,9 +13,132 @@ use crate::table::{Table, put, set_row};
 use flux_types::{Defs, Ty, copy_of};
 use std::alloc::{AllocError, Global};
 
+// A sequence and the state of what stands behind it. The edges of its second part are those from
+// a place on.
+#[derive(Clone, Copy)]
+pub(crate) struct Pair<'t> {
+    pub(crate) left: &'t Ty,
+    pub(crate) right: &'t Ty,
+    pub(crate) next: u64,
+    pub(crate) from: usize,
+}
+
+// What is still to be done: to read a type before a state, to read the first part of a sequence,
+// or to give a state the edges from a place on.
+#[derive(Clone, Copy)]
+pub(crate) enum Task<'t> {
+    Read(&'t Ty, u64),
+    First(Pair<'t>),
+    Row(u64, usize),
+}
+
+// The edges that were found, and what is still to be done, the last first.
+#[derive(Drop)]
+pub(crate) struct Work<'t> {
+    pub(crate) edges: Vec<Edge>,
+    pub(crate) tasks: Vec<Task<'t>>,
+}
+
+// Reads the outermost node of a type: adds its edges, or tasks that come to them.
+fn read<'t>(
+    alloc: Global,
+    defs: &'t Defs,
+    table: &mut Table,
+    work: &mut Work<'t>,
+    ty: &'t Ty,
+    next: u64,
+) -> Result<(), AllocError>
+    requires even { IsEven table.old }
+    requires end { at (lists table.old.cells.items) 0 ≡ empty ∷ [] }
+    requires bodies { BodiesReady defs.now table.old.cells.items }
+    requires ready { Ready (length defs.now) table.old.cells.items (ty_of ty.now) }
+    requires tail { next < length table.old.cells.items }
+    ensures grows { Grows (length table.old.rows.items) table.old table.new }
+    ensures ok { OnOk result
+        (Opens defs.now (ty_of ty.now) next table.old work.old table.new work.new) }
+{
+    match ty {
+        Ty::Empty => {}
+        Ty::Atom(kind) => work.edges.push(Edge::Atom(*kind, next))?,
+        Ty::Elem(label, inner) => {
+            let content = find(&table.cells, inner.get()).unwrap_or(0);
+            work.edges.push(Edge::Elem(*label, content, next))?;
+        }
+        Ty::Seq(left, right) => {
+            let (left, right, from) = (left.get(), right.get(), work.edges.len());
+            work.tasks.push(Task::First(Pair {
+                left,
+                right,
+                next,
+                from,
+            }))?;
+            work.tasks.push(Task::Read(right, next))?;
+        }
+        Ty::Alt(left, right) => {
+            work.tasks.push(Task::Read(right.get(), next))?;
+            work.tasks.push(Task::Read(left.get(), next))?;
+        }
+        Ty::Star(inner) => {
+            let state = put(table, copy_of(alloc, ty)?, next, true, Vec::new(alloc))?;
+            work.tasks.push(Task::Row(state, work.edges.len()))?;
+            work.tasks.push(Task::Read(inner.get(), state))?;
+        }
+        Ty::Named(index) => work.tasks.push(Task::Read(defs.unfold(*index), next))?,
+    }
+    Ok(())
+}
+
+// Puts a state for the second part of a sequence, whose edges stay where the first part may be
+// empty. The first part is then read before that state.
+fn put_second<'t>(
+    alloc: Global,
+    names: &[bool],
+    table: &mut Table,
+    work: &mut Work<'t>,
+    pair: Pair<'t>,
+) -> Result<(), AllocError>
+    requires even { IsEven table.old }
+    requires within { pair.from ≤ length work.old.edges.items }
+    ensures grows { Grows (length table.old.rows.items) table.old table.new }
+    ensures ok { OnOk result
+        (PutsSecond names.now pair.entry table.old work.old table.new work.new) }
+{
+    let Pair {
+        left,
+        right,
+        next,
+        from,
+    } = pair;
+    let head = copy_of(alloc, right)?;
+    let own = work.edges[from..].to_vec(alloc)?;
+    let state = put(table, head, next, has_empty(names, right), own)?;
+    if !has_empty(names, left) {
+        work.edges.truncate(from);
+    }
+    work.tasks.push(Task::Read(left, state))?;
+    Ok(())
+}
+
+// Gives a state the edges from a place on. It takes the empty forest.
+fn fill_row(
+    alloc: Global,
+    table: &mut Table,
+    edges: &[Edge],
+    state: u64,
+    from: usize,
+) -> Result<(), AllocError>
+    requires there { state < length table.old.rows.items }
+    requires within { from ≤ length edges.now }
+    ensures same { OnErr result (table.new ≡ table.old) }
+    ensures ok { OnOk result (FillsRow table.old table.new edges.now state from) }
+{
+    let own = edges[from..].to_vec(alloc)?;
+    set_row(table, state, true, own);
+    Ok(())
+}
+
 // The edges of a type and then what a state stands for. States are added for what stands behind
-// the first tree.
-#[cycle(linear)]
+// the first tree. It recurses neither by the type nor by names.
 pub(crate) fn linear(
     alloc: Global,
     defs: &Defs,
@@ -27,123 +151,19 @@ pub(crate) fn linear(
     requires ready { Ready (length defs.now) table.old.cells.items (ty_of ty.now) }
     requires tail { next < length table.old.cells.items }
     ensures grows { Grows (length table.old.rows.items) table.old table.new }
-    ensures ok { IfOk result (λ edges. Linear defs.now table.old table.new (ty_of ty.now) next edges.items) }
+    ensures ok { IfOk result
+        (λ edges. Linear defs.now table.old table.new (ty_of ty.now) next edges.items) }
 {
-    match ty {
-        Ty::Empty => Ok(Vec::new(alloc)),
-        Ty::Atom(kind) => one_edge(alloc, Edge::Atom(*kind, next)),
-        Ty::Elem(label, inner) => {
-            let content = find(&table.cells, inner.get()).unwrap_or(0);
-            one_edge(alloc, Edge::Elem(*label, content, next))
+    let edges = Vec::new(alloc);
+    let mut tasks = Vec::new(alloc);
+    tasks.push(Task::Read(ty, next))?;
+    let mut work = Work { edges, tasks };
+    while let Some(task) = work.tasks.pop() {
+        match task {
+            Task::Read(ty, next) => read(alloc, defs, table, &mut work, ty, next)?,
+            Task::First(pair) => put_second(alloc, names, table, &mut work, pair)?,
+            Task::Row(state, from) => fill_row(alloc, table, &work.edges, state, from)?,
         }
-        Ty::Seq(left, right) => linear_seq(
-            alloc,
-            defs,
-            names,
-            table,
-            left.get(),
-            right.get(),
-            next,
-        ),
-        Ty::Alt(left, right) => linear_alt(
-            alloc,
-            defs,
-            names,
-            table,
-            left.get(),
-            right.get(),
-            next,
-        ),
-        Ty::Star(inner) => linear_star(alloc, defs, names, table, ty, inner.get(), next),
-        Ty::Named(index) => linear(alloc, defs, names, table, defs.unfold(*index), next),
     }
-}
-
-fn one_edge(alloc: Global, edge: Edge) -> Result<Vec<Edge>, AllocError>
-    ensures { IfOk result (λ edges. edges.items ≡ edge ∷ []) }
-{
-    let mut edges = Vec::new(alloc);
-    edges.push(edge)?;
-    Ok(edges)
-}
-
-pub(crate) fn joined(mut edges: Vec<Edge>, more: &[Edge]) -> Result<Vec<Edge>, AllocError>
-    ensures { IfOk result (λ all. all.items ≡ edges.items ++ more.now) }
-{
-    edges.extend_from_slice(more)?;
-    Ok(edges)
-}
-
-#[cycle(linear)]
-fn linear_seq(
-    alloc: Global,
-    defs: &Defs,
-    names: &[bool],
-    table: &mut Table,
-    left: &Ty,
-    right: &Ty,
-    next: u64,
-) -> Result<Vec<Edge>, AllocError>
-    requires ground { IsGround defs.now names.now table.old }
-    requires ready { Ready (length defs.now) table.old.cells.items (seq (ty_of left.now) (ty_of right.now)) }
-    requires tail { next < length table.old.cells.items }
-    ensures grows { Grows (length table.old.rows.items) table.old table.new }
-    ensures ok { IfOk result (λ edges. Linear defs.now table.old table.new (seq (ty_of left.now) (ty_of right.now)) next edges.items) }
-{
-    let second = linear(alloc, defs, names, table, right, next)?;
-    let head = copy_of(alloc, right)?;
-    let own = second.as_slice().to_vec(alloc)?;
-    let state = put(table, head, next, has_empty(names, right), own)?;
-    let first = linear(alloc, defs, names, table, left, state)?;
-    if !has_empty(names, left) {
-        return Ok(first);
-    }
-    joined(first, second.as_slice())
-}
-
-#[cycle(linear)]
-fn linear_alt(
-    alloc: Global,
-    defs: &Defs,
-    names: &[bool],
-    table: &mut Table,
-    left: &Ty,
-    right: &Ty,
-    next: u64,
-) -> Result<Vec<Edge>, AllocError>
-    requires ground { IsGround defs.now names.now table.old }
-    requires ready { Ready (length defs.now) table.old.cells.items (alt (ty_of left.now) (ty_of right.now)) }
-    requires tail { next < length table.old.cells.items }
-    ensures grows { Grows (length table.old.rows.items) table.old table.new }
-    ensures ok { IfOk result (λ edges. Linear defs.now table.old table.new (alt (ty_of left.now) (ty_of right.now)) next edges.items) }
-{
-    let first = linear(alloc, defs, names, table, left, next)?;
-    let second = linear(alloc, defs, names, table, right, next)?;
-    joined(first, second.as_slice())
-}
-
-// The star itself stands behind each tree that it begins with.
-#[cycle(linear)]
-fn linear_star(
-    alloc: Global,
-    defs: &Defs,
-    names: &[bool],
-    table: &mut Table,
-    ty: &Ty,
-    inner: &Ty,
-    next: u64,
-) -> Result<Vec<Edge>, AllocError>
-    requires is_star { ty_of ty.now ≡ star (ty_of inner.now) }
-    requires ground { IsGround defs.now names.now table.old }
-    requires ready { Ready (length defs.now) table.old.cells.items (ty_of inner.now) }
-    requires tail { next < length table.old.cells.items }
-    ensures grows { Grows (length table.old.rows.items) table.old table.new }
-    ensures ok { IfOk result (λ edges. Linear defs.now table.old table.new (star (ty_of inner.now)) next edges.items) }
-{
-    let head = copy_of(alloc, ty)?;
-    let state = put(table, head, next, true, Vec::new(alloc))?;
-    let edges = linear(alloc, defs, names, table, inner, state)?;
-    let own = edges.as_slice().to_vec(alloc)?;
-    set_row(table, state, true, own);
-    Ok(edges)
+    Ok(work.edges)
 }
