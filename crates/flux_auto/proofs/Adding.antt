@@ -15,7 +15,8 @@ use Rattle.flux_auto.specs.Standing.{at, lists, Ready, IsContent}
 use Rattle.flux_auto.specs.Built.{states_of, Grows, IsClosed, IsComplete, Extended}
 use Rattle.flux_auto.specs.Shown.{shown, IsRight}
 use Rattle.flux_auto.specs.Witness.{IsTakenBy}
-use Rattle.flux_auto.proofs.Tables.{some_is, get-append, get-end, IsContent-grows}
+use Rattle.flux_auto.proofs.Items.{some_is, get-append, get-end}
+use Rattle.flux_auto.proofs.Tables.{IsContent-grows}
 use Rattle.flux_auto.proofs.Growing.{below_or_not, carried}
 use Rattle.flux_auto.proofs.Meaning.{get-map, content_takes}
 

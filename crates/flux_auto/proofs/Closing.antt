@@ -16,7 +16,8 @@ use Rattle.flux_auto.specs.Takes.{EdgesBelow}
 use Rattle.flux_auto.specs.Standing.{In, at, lists, FollowsAny, Ready}
 use Rattle.flux_auto.specs.Built.{Grows, IsSet, IsEven, IsGround, IsOwn, IsClosed, OwnFrom, FreshFrom, Linear, ClosedBelow, Awaits, Filled, Closed}
 use Rattle.flux_auto.proofs.Lists.{in-cons, starts-in, skips-in, starts-full}
-use Rattle.flux_auto.proofs.Tables.{some_is, get-append, at-cell, edges-append, any-left, any-right, any-cases, IsOwn-grows, IsClosed-grows, IsFresh-grows}
+use Rattle.flux_auto.proofs.Items.{some_is, get-append}
+use Rattle.flux_auto.proofs.Tables.{at-cell, edges-append, any-left, any-right, any-cases, IsOwn-grows, IsClosed-grows, IsFresh-grows}
 use Rattle.flux_auto.proofs.Growing.{below_or_not, grows_by, grows_same, carried}
 use Rattle.flux_auto.proofs.Reading.{own_from, ground_on}
 
@@ -107,9 +108,6 @@ module _ (defs : Definitions) where
     pub closed : ClosedBelow defs i b
     pub own : OwnFrom defs i b
 
-  pub closes_begins : (n : ℕ) (a : Table) → OwnFrom defs n a → ClosedBelow defs n a → Closes n n a a
-  closes_begins n a o k = record { cells = refl; same_length = refl; first = λ s lt. refl; closed = k; own = o }
-
   pub closes_next : (n i : ℕ) (a b c : Table) → n ≤ i → Closes n i a b → Closed defs b c i → Closes n (i + 1) a c
   closes_next n i a b c le x y = record {
     cells = y.cells ∙ x.cells;
@@ -123,9 +121,6 @@ module _ (defs : Definitions) where
     ];
     own = λ s r le e. subst (λ k. IsOwn defs k s r) (sym y.cells) (x.own s r (omega (arith, le)) (sym (y.others s (λ at. omega (arith, at, le))) ∙ e));
   }
-
-  pub closes_grows : (n i : ℕ) (a b : Table) → n ≤ length a.rows.items → Closes n i a b → Grows n a b
-  closes_grows n i a b le x = record { more = []; cells = x.cells ∙ sym (append-nil a.cells.items); rows = x.first; longer = omega (arith, le, x.same_length) }
 
   pub closed_carried : (n : ℕ) (a b : Table) → n ≤ length a.cells.items → ClosedBelow defs n a → Grows n a b → ClosedBelow defs n b
   closed_carried n a b le k g s r lt e = carried (λ l. IsClosed defs l s r) n a b g (λ more. IsClosed-grows defs a.cells.items more s r (omega (arith, lt, le)) (k s r lt (sym (g.rows s lt) ∙ e)))

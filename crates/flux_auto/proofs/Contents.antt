@@ -2,6 +2,7 @@
 use Rattle.std.proofs.Common.{◌≡◌, ℕ, ◌+◌, ◌<◌, ◌≤◌, ◌⊎◌, ◌↔◌, List, [], ◌∷◌, ◌++◌, length, Bool, true, false, ◌&&◌, IsTrue, Option, Some, None, IfSome, IfNone, unwrap_or, slice_get, get_or, refl, sym, ap, ap₂, subst, ◌∙◌, inl, inr, arith, length-append}
 use Rattle.std.proofs.lemmas.Option.{slice_get_within, slice_get_read}
 use Rattle.std.proofs.lemmas.Bool.{eq-eqb}
+use Rattle.std.specs.Cmp.Derive.{both_true as two}
 use Rattle.flux_atom.specs.declared.atom.AtomKind.{AtomKind}
 use Rattle.flux_schema.specs.Ty.{Ty, empty, atom, element, seq, alt, star, named, NamesBelow}
 use Rattle.flux_schema.specs.Tidy.{same}
@@ -15,13 +16,11 @@ use Rattle.flux_auto.specs.declared.table.Cell.{Cell}
 use Rattle.flux_auto.specs.declared.table.Table.{Table}
 use Rattle.flux_auto.specs.Standing.{IsContent, HasContent, Ready}
 use Rattle.flux_auto.specs.Built.{Grows, Put, IsEven, IsFresh, FreshFrom, Registered, PutContent}
-use Rattle.flux_auto.proofs.Tables.{some_is, get-append, get-end, Ready-grows, IsFresh-grows}
+use Rattle.flux_auto.proofs.Items.{some_is, get-append, get-end}
+use Rattle.flux_auto.proofs.Tables.{Ready-grows, IsFresh-grows}
 use Rattle.flux_auto.proofs.Growing.{below_or_not, carried}
 
 -- ---- the search for a state
-
-two : {a b : Bool} → a ≡ true → b ≡ true → a && b ≡ true
-two e f = ap₂ (λ a b. a && b) e f
 
 pub same-refl : (t : Ty) → same t t ≡ true
 same-refl empty = refl
@@ -60,7 +59,7 @@ found_state cs given t (Some s) r e f g h is = subst (λ i. IsContent cs i t) (s
 
 -- ---- a state that is put last
 
-put-cell : (a b : Table) (head : Ty) (tail : ℕ) (ends : Bool) (edges : List Edge) (s : ℕ) → (p : Put a b head tail ends edges s) → slice_get b.cells.items s ≡ Some p.cell
+pub put-cell : (a b : Table) (head : Ty) (tail : ℕ) (ends : Bool) (edges : List Edge) (s : ℕ) → (p : Put a b head tail ends edges s) → slice_get b.cells.items s ≡ Some p.cell
 put-cell a b head tail ends edges s p = ap (slice_get b.cells.items) p.state ∙ ap (λ l. slice_get l (length a.cells.items)) p.cells ∙ get-end a.cells.items p.cell []
 
 pub put_as : (a b : Table) (h head : Ty) (tail : ℕ) (ends : Bool) (es edges : List Edge) (s : ℕ) → h ≡ head → es ≡ edges → Put a b h tail ends es s → Put a b head tail ends edges s

@@ -3,12 +3,15 @@ use Rattle.std.proofs.Common.{◌≡◌, ◌⊎◌, ℕ, List, [], ◌∷◌, So
 use Rattle.flux_atom.specs.declared.atom.Atom.{Atom as Value}
 use Rattle.flux_atom.specs.declared.atom.AtomKind.{AtomKind}
 use Rattle.flux_atom.specs.Atom.{kind_of}
+use Rattle.std.proofs.lemmas.Bool.{or_right}
 use Rattle.flux_trees.specs.Hedge.{Plain, nil, elem, leaf, join}
 use Rattle.flux_trees.proofs.HedgeLaws.{join-nil, join_assoc}
 use Rattle.flux_schema.specs.Ty.{Ty, empty, atom, element, seq, alt, star, named}
 use Rattle.flux_schema.specs.Definitions.{Definitions, body_of}
 use Rattle.flux_schema.specs.Member.{Member, in_empty, in_atom, in_element, in_seq, in_left, in_right, in_done, in_more, in_name}
+use Rattle.flux_schema.proofs.SameLaws.{both_true}
 use Rattle.flux_auto.specs.Standing.{In, Starts, empties}
+use Rattle.flux_auto.proofs.Items.{some_is}
 
 pub nil_or : (v : Plain) → (v ≡ nil) ⊎ (v ≡ nil → ⊥)
 nil_or nil = inl refl
@@ -19,9 +22,6 @@ pub nil_parts : (v w : Plain) → join v w ≡ nil → (v ≡ nil) × (w ≡ nil
 nil_parts nil w e = (refl, e)
 nil_parts (elem n a c r) w e = cc
 nil_parts (leaf n x r) w e = cc
-
-some_is : {A : Type 0} (x y : A) → Some x ≡ Some y → x ≡ y
-some_is x y e = cc
 
 -- ---- the parts of a membership
 
@@ -67,24 +67,15 @@ module _ (defs : Definitions) where
 
   -- ---- the empty forest
 
-  both : (a b : Bool) → a && b ≡ true → (a ≡ true) × (b ≡ true)
-  both true true e = (refl, refl)
-  both true false e = cc
-  both false _ e = cc
-
   either : (a b : Bool) → a || b ≡ true → (a ≡ true) ⊎ (b ≡ true)
   either true b e = inl refl
   either false b e = inr e
-
-  or_right : (a b : Bool) → b ≡ true → a || b ≡ true
-  or_right true b e = refl
-  or_right false b e = e
 
   pub empties-sound : (q : ℕ → Bool) → ((x : ℕ) → q x ≡ true → Member defs nil (named x)) → (t : Ty) → empties q t ≡ true → Member defs nil t
   empties-sound q s empty e = in_empty
   empties-sound q s (atom a) e = cc
   empties-sound q s (element n t) e = cc
-  empties-sound q s (seq t u) e = let p = both _ _ e in in_seq nil nil refl (empties-sound q s t p.0) (empties-sound q s u p.1)
+  empties-sound q s (seq t u) e = let p = both_true _ _ e in in_seq nil nil refl (empties-sound q s t p.0) (empties-sound q s u p.1)
   empties-sound q s (alt t u) e = elim (either _ _ e) [ inl h ↦ in_left u (empties-sound q s t h) | inr h ↦ in_right t (empties-sound q s u h) ]
   empties-sound q s (star t) e = in_done t
   empties-sound q s (named x) e = s x e

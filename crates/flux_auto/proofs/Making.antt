@@ -4,6 +4,7 @@ use Rattle.std.proofs.lemmas.Option.{slice_get_within}
 use Rattle.flux_trees.specs.Hedge.{nil}
 use Rattle.flux_schema.specs.Ty.{Ty, empty, NamesBelow}
 use Rattle.flux_schema.specs.Definitions.{Definitions, body_of}
+use Rattle.flux_schema.proofs.Ranks.{body_within}
 use Rattle.flux_auto.specs.declared.table.Cell.{Cell}
 use Rattle.flux_auto.specs.declared.table.Row.{Row}
 use Rattle.flux_auto.specs.declared.table.Table.{Table}
@@ -11,7 +12,8 @@ use Rattle.flux_auto.specs.Takes.{EdgesBelow}
 use Rattle.flux_auto.specs.Standing.{In, at, lists, FollowsAny, TellsEmpty, Ready, IsContent}
 use Rattle.flux_auto.specs.Built.{Grows, Put, IsEven, IsGround, IsClosed, FreshFrom, Registered, PutContent, ClosedBelow, IsComplete, IsBegun, Extended}
 use Rattle.flux_auto.proofs.Lists.{end-in, in-end}
-use Rattle.flux_auto.proofs.Tables.{some_is, at-grows, IsContent-grows}
+use Rattle.flux_auto.proofs.Items.{some_is}
+use Rattle.flux_auto.proofs.Tables.{at-grows, IsContent-grows}
 use Rattle.flux_auto.proofs.Growing.{below_or_not, grows_by, grows_same, grows-length, carried}
 use Rattle.flux_auto.proofs.Contents.{fresh_on}
 use Rattle.flux_auto.proofs.Reading.{ground_on, ready_on}
@@ -77,14 +79,6 @@ module _ (defs : Definitions) where
     ];
     fresh = fresh_on (length defs) (length b.rows.items) 1 b c x.fresh g (r.fresh (length defs) known);
   }
-
-  pub begins_more : (n : ℕ) (a b : Table) → IsBegun a → Begins n a b → 1 ≤ length b.cells.items
-  begins_more n a b g x = omega (arith, g.one, grows-length 1 a b x.grows)
-
-  body_within : (ds : Definitions) (x : ℕ) (t : Ty) → body_of ds x ≡ Some t → x < length ds
-  body_within [] x t e = cc
-  body_within (d ∷ ds) zero t e = omega arith
-  body_within (d ∷ ds) (suc x) t e = omega (arith, body_within ds x t e)
 
   pub begins_ground : (names : List Bool) (n : ℕ) (a b : Table) → TellsEmpty defs names → IsBegun a → Begins n a b → length defs ≤ n → IsGround defs names b
   begins_ground names n a b tells g x le = record {

@@ -8,9 +8,11 @@ use Rattle.flux_schema.specs.Definitions.{Definitions, body_of}
 use Rattle.flux_schema.specs.Member.{Member, in_name}
 use Rattle.flux_schema.specs.Marks.{unmarked}
 use Rattle.flux_schema.proofs.MarkLaws.{marked-set, unmarked-set}
+use Rattle.flux_schema.proofs.Ranks.{body_within}
 use Rattle.flux_auto.specs.Takes.{has}
 use Rattle.flux_auto.specs.Standing.{empties, TellsEmpty}
 use Rattle.flux_auto.specs.Marking.{MarksSound, Marks}
+use Rattle.flux_auto.proofs.Items.{some_is}
 use Rattle.flux_auto.proofs.Lists.{of_name, empties-sound, empties-complete}
 use Rattle.flux_auto.proofs.Growing.{below_or_not}
 
@@ -30,9 +32,6 @@ marking_begins defs names e = record {
   no_more = omega arith;
   all = λ k x t lt. absurd (omega (arith, lt));
 }
-
-some_is : (t u : Ty) → Some t ≡ Some u → t ≡ u
-some_is t u e = cc
 
 -- the name has no mark, and its body has the empty forest
 pub marking_marks : (defs : Definitions) (before names : List Bool) (n : ℕ) (more read : Bool) (t : Ty) → Marking defs before names n more → n < length names → read ≡ get_or names n read → read ≡ false → body_of defs n ≡ Some t → empties (has names) t ≡ true
@@ -71,11 +70,6 @@ marking_keeps defs before names n more m e = record {
 -- the body is one
 pub lacks_body : (defs : Definitions) (names : List Bool) (n : ℕ) (t : Ty) → body_of defs n ≡ Some t → empties (has names) t ≡ false → (u : Ty) → body_of defs n ≡ Some u → (has names n ≡ true) ⊎ (empties (has names) u ≡ false)
 lacks_body defs names n t is e u f = inr (ap (empties (has names)) (some_is u t (sym f ∙ is)) ∙ e)
-
-body_within : (defs : Definitions) (x : ℕ) (t : Ty) → body_of defs x ≡ Some t → x < length defs
-body_within [] x t e = cc
-body_within (d ∷ defs) zero t e = omega arith
-body_within (d ∷ defs) (suc x) t e = omega (arith, body_within defs x t e)
 
 pub marking_ends : (defs : Definitions) (before names : List Bool) (n : ℕ) (more : Bool) → Marking defs before names n more → length defs ≤ n → Marks defs before names more
 marking_ends defs before names n more m le = record {

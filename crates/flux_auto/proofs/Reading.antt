@@ -16,9 +16,10 @@ use Rattle.flux_auto.specs.Takes.{has, EdgesBelow}
 use Rattle.flux_auto.specs.Standing.{In, empties, TellsEmpty, at, lists, FollowsAny, Starts, Ready, Reads, IsContent}
 use Rattle.flux_auto.specs.Built.{Grows, Put, IsSet, IsEven, IsGround, IsOwn, OwnFrom, Linear}
 use Rattle.flux_auto.proofs.Lists.{empties-sound, empties-complete, starts-empty, starts-atom, atom-starts, starts-element, element-starts, starts-seq, seq-starts_first, seq-starts_second, starts-alt, alt-starts_left, alt-starts_right, starts-star, star-starts, starts-name, name-starts, alone-in, in-alone}
-use Rattle.flux_auto.proofs.Tables.{some_is, get-append, get-end, at-grows, at-cell, edges-append, any-left, any-right, any-cases, Reads-grows, IsOwn-grows, Ready-grows}
+use Rattle.flux_auto.proofs.Items.{some_is, get-append, get-end}
+use Rattle.flux_auto.proofs.Tables.{at-grows, at-cell, edges-append, any-left, any-right, any-cases, Reads-grows, IsOwn-grows, Ready-grows}
 use Rattle.flux_auto.proofs.Growing.{below_or_not, grows-length, carried}
-use Rattle.flux_auto.proofs.Contents.{put-even}
+use Rattle.flux_auto.proofs.Contents.{put-cell, put-even}
 
 module _ (defs : Definitions) where
   -- ---- what grows
@@ -48,9 +49,6 @@ module _ (defs : Definitions) where
   own_none a s r le e = absurd (omega (arith, le, slice_get_within a.rows.items s r e))
 
   -- ---- a state that is put last
-
-  put-cell : (a b : Table) (head : Ty) (tail : ℕ) (ends : Bool) (edges : List Edge) (s : ℕ) → (p : Put a b head tail ends edges s) → slice_get b.cells.items s ≡ Some p.cell
-  put-cell a b head tail ends edges s p = ap (slice_get b.cells.items) p.state ∙ ap (λ l. slice_get l (length a.cells.items)) p.cells ∙ get-end a.cells.items p.cell []
 
   pub put-grows : (a b : Table) (head : Ty) (tail : ℕ) (ends : Bool) (edges : List Edge) (s : ℕ) → Put a b head tail ends edges s → Grows (length a.rows.items) a b
   put-grows a b head tail ends edges s p = record {
@@ -102,29 +100,10 @@ module _ (defs : Definitions) where
       let sound = empties-sound defs (has names) (λ x h. (tells x).0 h) in
       (λ h. sound t (sym e ∙ h), λ m. e ∙ empties-complete defs (has names) (λ x u is h. (tells x).1 (in_name x is (sound u h))) nil t m refl)
 
-  -- ---- what the next part of a type is read with
-
-  pub next_ready : (names : List Bool) (n m : ℕ) (a b : Table) (t : Ty) (tail : ℕ) → IsGround defs names a → Ready m a.cells.items t → tail < length a.cells.items → Grows n a b → IsEven b
-      → IsGround defs names b × (Ready m b.cells.items t × (tail < length b.cells.items))
-  next_ready names n m a b t tail g r lt grows even =
-      (ground_on names n a b g grows (omega (arith, lt)) even, (ready_on n m a b t r grows, omega (arith, lt, grows-length n a b grows)))
-
-  pub put_ready : (names : List Bool) (n m : ℕ) (a b c : Table) (t head : Ty) (tail : ℕ) (ends : Bool) (edges : List Edge) (s : ℕ) → IsGround defs names a → Ready m a.cells.items t → 0 < length a.cells.items
-      → Grows n a b → IsEven b → Put b c head tail ends edges s → IsGround defs names c × (Ready m c.cells.items t × (s < length c.cells.items))
-  put_ready names n m a b c t head tail ends edges s g r lt grows even p =
-      let put = put-grows b c head tail ends edges s p in
-      let more : 0 < length b.cells.items = omega (arith, lt, grows-length n a b grows) in (
-        ground_on names (length b.rows.items) b c (ground_on names n a b g grows lt even) put more (put-even b c head tail ends edges s even p),
-        (ready_on (length b.rows.items) m b c t (ready_on n m a b t r grows) put, put-below b c head tail ends edges s p),
-      )
-
   -- ---- no state more
 
   pub linear_here : (a : Table) (t : Ty) (tail : ℕ) (es : List Edge) → IsEven a → Reads defs a.cells.items t tail es → Linear defs a a t tail es
   linear_here a t tail es even r = record { even = even; own = own_none a; reads = r }
-
-  pub linear_as : (a b : Table) (t u : Ty) (tail : ℕ) (es : List Edge) → u ≡ t → Linear defs a b t tail es → Linear defs a b u tail es
-  linear_as a b t u tail es e l = subst (λ x. Linear defs a b x tail es) (sym e) l
 
   pub linear_empty : (a : Table) (tail : ℕ) (es : List Edge) → IsEven a → tail < length a.cells.items → es ≡ [] → Linear defs a a empty tail es
   linear_empty a tail es even lt e =

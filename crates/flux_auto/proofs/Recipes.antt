@@ -6,6 +6,8 @@ use Rattle.std.proofs.lemmas.Bool.{eq-eqb}
 use Rattle.std.proofs.Math.ListN.{set}
 use Rattle.std.proofs.lemmas.List.{append-nil, length-set}
 use Rattle.std.proofs.lemmas.Option.{slice_get_within}
+use Rattle.std.specs.Cmp.Derive.{both_true as two}
+use Rattle.std.proofs.lemmas.Map.Keys.{any_passes_from_place}
 use Rattle.flux_atom.specs.declared.atom.AtomKind.{AtomKind}
 use Rattle.flux_atom.specs.declared.atom.AtomKind.TheVariants as kind
 use Rattle.flux_atom.specs.Atom.{kind_of}
@@ -22,7 +24,7 @@ use Rattle.flux_auto.specs.declared.witness.Witnesses.{Witnesses}
 use Rattle.flux_auto.specs.Takes.{State, has, goes_by_element, goes_by_atom, profile, takes}
 use Rattle.flux_auto.specs.Built.{state_of}
 use Rattle.flux_auto.specs.Witness.{sample, forest_at, made, forests_after, forests, IsOlder, AreOlder, place, recipe_by, IsRecipe, Lacks, unplaced, Knows, Settled, Tried, Round, IsTakenBy}
-use Rattle.flux_auto.proofs.Tables.{some_is, get-append, get-end, split_at}
+use Rattle.flux_auto.proofs.Items.{some_is, get-append, get-end, split_at}
 use Rattle.flux_auto.proofs.Growing.{below_or_not}
 use Rattle.flux_auto.proofs.Meaning.{got, has-map}
 
@@ -80,19 +82,7 @@ forest-made rs i r e o =
 
 -- ---- what a recipe gives is taken
 
-any_at : {A : Type 0} (p : A → Bool) (xs : List A) (i : ℕ) (x : A) → slice_get xs i ≡ Some x → p x ≡ true → list_any p xs ≡ true
-any_at p [] i x e t = cc
-any_at p (y ∷ xs) zero x e t = ap (λ b. b || list_any p xs) (ap p (some_is y x e) ∙ t)
-any_at p (y ∷ xs) (suc i) x e t = or_right (p y) (list_any p xs) (any_at p xs i x e t)
-  where
-    or_right : (a b : Bool) → b ≡ true → a || b ≡ true
-    or_right true b e = refl
-    or_right false b e = e
-
-two : {a b : Bool} → a ≡ true → b ≡ true → a && b ≡ true
-two e f = ap₂ (λ a b. a && b) e f
-
-kind_of-sample : (k : AtomKind) → kind_of (sample k) ≡ k
+pub kind_of-sample : (k : AtomKind) → kind_of (sample k) ≡ k
 kind_of-sample kind.Bool = refl
 kind_of-sample kind.Text = refl
 
@@ -113,7 +103,7 @@ module _ (rows : List Row) (known : Witnesses) (k : Knows rows known) where
   by_atom s row i a q j e f p =
       let sound = k.sound q j p in
       let test : goes_by_atom (kind_of (sample a)) (profile states (forest_at hs j)) (edge.Atom a q) ≡ true = two (ap (same_kind a) (kind_of-sample a) ∙ same_kind-same a) sound.1 in
-      (sound.0, has-map (λ st. list_any (goes_by_atom (kind_of (sample a)) (profile states (forest_at hs j))) st.edges) rows s row e ∙ any_at (goes_by_atom (kind_of (sample a)) (profile states (forest_at hs j))) row.edges.items i (edge.Atom a q) f test)
+      (sound.0, has-map (λ st. list_any (goes_by_atom (kind_of (sample a)) (profile states (forest_at hs j))) st.edges) rows s row e ∙ any_passes_from_place (goes_by_atom (kind_of (sample a)) (profile states (forest_at hs j))) row.edges.items i (edge.Atom a q) f test)
 
   by_element : (s : ℕ) (row : Row) (x : ℕ) (n c q i j : ℕ) → slice_get rows s ≡ Some row → slice_get row.edges.items x ≡ Some (edge.Elem n c q) → place known.places.items c ≡ Some i → place known.places.items q ≡ Some j
       → IsOlder (length known.recipes.items) (Elem n i j) × (takes states s (made hs (Elem n i j)) ≡ true)
@@ -123,7 +113,7 @@ module _ (rows : List Row) (known : Witnesses) (k : Knows rows known) where
       let test : goes_by_element n (profile states (forest_at hs i)) (profile states (forest_at hs j)) (edge.Elem n c q) ≡ true = two (eq-eqb n n refl) (two first.1 rest.1) in (
         (first.0, rest.0),
         has-map (λ st. list_any (goes_by_element n (profile states (forest_at hs i)) (profile states (forest_at hs j))) st.edges) rows s row e
-            ∙ any_at (goes_by_element n (profile states (forest_at hs i)) (profile states (forest_at hs j))) row.edges.items x (edge.Elem n c q) f test,
+            ∙ any_passes_from_place (goes_by_element n (profile states (forest_at hs i)) (profile states (forest_at hs j))) row.edges.items x (edge.Elem n c q) f test,
       )
 
   edge_taken : (s : ℕ) (row : Row) (x : ℕ) (e : Edge) (r : Recipe) → slice_get rows s ≡ Some row → slice_get row.edges.items x ≡ Some e → recipe_by known.places.items e ≡ Some r

@@ -9,7 +9,7 @@ use Rattle.flux_subtype.specs.declared.trees.Tree.{Tree}
 use Rattle.flux_subtype.specs.Going.{IsProfile, IsDead}
 use Rattle.flux_subtype.specs.Kept.{set_at}
 use Rattle.flux_subtype.specs.Search.{Stands, Answered, AllAnswered, IsDone, IsCovered, IsAgainst}
-use Rattle.flux_subtype.proofs.Places.{has-none}
+use Rattle.flux_subtype.proofs.Items.{has-none}
 use Rattle.flux_subtype.proofs.GoingLaws.{takes_goes, MovesOf, element_moves, fires_profile, silent_dead}
 
 content_dead : (a : List State) (n : ℕ) (c w : Plain) → IsDead a c → IsDead a (elem tt n c w)

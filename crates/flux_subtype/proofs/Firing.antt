@@ -4,7 +4,8 @@ use Rattle.std.proofs.lemmas.Option.{slice_get_within}
 use Rattle.flux_auto.specs.Takes.{has}
 use Rattle.flux_subtype.specs.declared.index.Move.{Move}
 use Rattle.flux_subtype.specs.Search.{Fires}
-use Rattle.flux_subtype.proofs.Places.{some_is, below_or_at}
+use Rattle.flux_auto.proofs.Items.{some_is}
+use Rattle.flux_subtype.proofs.Items.{below_or_at}
 
 -- by the first k moves
 abbrev pub FiresBelow : List Move → List Bool → List Bool → ℕ → Type 0

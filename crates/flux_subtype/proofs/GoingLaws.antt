@@ -3,11 +3,14 @@
 use Rattle.std.proofs.Common.{◌≡◌, ◌↔◌, ℕ, zero, suc, ◌&&◌, ◌||◌, ◌==◌, List, [], ◌∷◌, map, Bool, true, false, Some, slice_get, refl, sym, ap, ap₂, subst, ◌∙◌, inl, inr}
 use Rattle.std.specs.List.{list_any}
 use Rattle.std.proofs.lemmas.Bool.Decides.{eqb_tells}
+use Rattle.std.proofs.lemmas.Map.Keys.{any_passes_from_place}
+use Rattle.std.specs.Cmp.Derive.{both_true as two}
 use Rattle.flux_atom.specs.declared.atom.AtomKind.{AtomKind}
 use Rattle.flux_atom.specs.declared.atom.AtomKind.TheVariants as kind
 use Rattle.flux_atom.specs.Atom.{kind_of}
 use Rattle.flux_trees.specs.Hedge.{Plain, nil, elem, leaf, others}
 use Rattle.flux_schema.specs.Tidy.{same_kind}
+use Rattle.flux_schema.proofs.SameLaws.{both_true, same_kind-eq, same_kind-same}
 use Rattle.flux_auto.specs.declared.edge.Edge.{Edge}
 use Rattle.flux_auto.specs.declared.edge.Edge.TheVariants.{Atom, Elem}
 use Rattle.flux_auto.specs.Takes.{State, has, goes_by_element, goes_by_atom, takes}
@@ -15,14 +18,6 @@ use Rattle.flux_subtype.specs.declared.index.Move.{Move}
 use Rattle.flux_subtype.specs.Going.{Has, Goes, IsProfile, IsDead}
 use Rattle.flux_subtype.specs.Index.{Moves, ByElement}
 use Rattle.flux_subtype.specs.Search.{Fires, IsSilent}
-
-both : (a b : Bool) → a && b ≡ true → (a ≡ true) × (b ≡ true)
-both true true e = (refl, refl)
-both true false e = cc
-both false _ e = cc
-
-both_true : (a b : Bool) → a ≡ true → b ≡ true → a && b ≡ true
-both_true a b e f = ap₂ (λ x y. x && y) e f
 
 has_map : (f : State → Bool) (a : List State) (s : ℕ) → has (map f a) s ≡ true → (st : State) × (slice_get a s ≡ Some st) × (f st ≡ true)
 has_map f [] s e = cc
@@ -42,15 +37,6 @@ any_is f (e ∷ es) h = by (f e) refl h (any_is f es)
     by true is g rest = (e, (0, refl), is)
     by false is g rest = let r = rest g in (r.0, (suc r.1.0, r.1.1), r.2)
 
-or_right : (a b : Bool) → b ≡ true → a || b ≡ true
-or_right true b e = refl
-or_right false b e = e
-
-is_any : (f : Edge → Bool) (es : List Edge) (k : ℕ) (e : Edge) → slice_get es k ≡ Some e → f e ≡ true → list_any f es ≡ true
-is_any f [] k e is h = cc
-is_any f (d ∷ es) zero e is h = (let same : d ≡ e = cc in ap (λ b. b || list_any f es) (ap f same ∙ h))
-is_any f (d ∷ es) (suc k) e is h = or_right (f d) _ (is_any f es k e is h)
-
 pub equal : (m n : ℕ) → (m == n) ≡ true → m ≡ n
 equal m n e = elim (eqb_tells m n) [ inl h ↦ h.1 | inr h ↦ absurd (let x : true ≡ false = sym e ∙ h.0 in cc) ]
 
@@ -60,31 +46,21 @@ equal_is n = elim (eqb_tells n n) [ inl h ↦ h.0 | inr h ↦ absurd (h.1 refl) 
 by_element : (n : ℕ) (p q : List Bool) (e : Edge) → goes_by_element n p q e ≡ true → (c : ℕ) × (r : ℕ) × (e ≡ Elem n c r) × (has p c ≡ true) × (has q r ≡ true)
 by_element n p q (Atom k r) h = cc
 by_element n p q (Elem m c r) h =
-    let a = both (m == n) _ h in
-    let b = both (has p c) (has q r) a.1 in
+    let a = both_true (m == n) _ h in
+    let b = both_true (has p c) (has q r) a.1 in
     (c, r, ap (λ x. Elem x c r) (equal m n a.0), b.0, b.1)
 
 element_by : (n : ℕ) (p q : List Bool) (c r : ℕ) → has p c ≡ true → has q r ≡ true → goes_by_element n p q (Elem n c r) ≡ true
-element_by n p q c r h g = both_true (n == n) _ (equal_is n) (both_true (has p c) (has q r) h g)
-
-kind_is : (j k : AtomKind) → same_kind j k ≡ true → j ≡ k
-kind_is kind.Bool kind.Bool e = refl
-kind_is kind.Bool kind.Text e = cc
-kind_is kind.Text kind.Bool e = cc
-kind_is kind.Text kind.Text e = refl
-
-kind_same : (k : AtomKind) → same_kind k k ≡ true
-kind_same kind.Bool = refl
-kind_same kind.Text = refl
+element_by n p q c r h g = two (equal_is n) (two h g)
 
 by_atom : (k : AtomKind) (q : List Bool) (e : Edge) → goes_by_atom k q e ≡ true → (r : ℕ) × (e ≡ Atom k r) × (has q r ≡ true)
 by_atom k q (Atom j r) h =
-    let a = both (same_kind j k) (has q r) h in
-    (r, ap (λ x. Atom x r) (kind_is j k a.0), a.1)
+    let a = both_true (same_kind j k) (has q r) h in
+    (r, ap (λ x. Atom x r) (same_kind-eq j k a.0), a.1)
 by_atom k q (Elem m c r) h = cc
 
 atom_by : (k : AtomKind) (q : List Bool) (r : ℕ) → has q r ≡ true → goes_by_atom k q (Atom k r) ≡ true
-atom_by k q r h = both_true (same_kind k k) (has q r) (kind_same k) h
+atom_by k q r h = two (same_kind-same k) h
 
 -- ----
 
@@ -103,8 +79,8 @@ takes_goes a s (leaf _ x w) ne h =
 
 pub goes_takes : (a : List State) (s : ℕ) (v : Plain) (r : ℕ) → Goes a s v r → takes a r (others v) ≡ true → takes a s v ≡ true
 goes_takes a s nil r g h = absurd g
-goes_takes a s (elem _ n c w) r (d, (st, at, (k, is)), t) h = map_has _ a s st at (is_any _ st.edges k (Elem n d r) is (element_by n _ _ d r t h))
-goes_takes a s (leaf _ x w) r (st, at, (k, is)) h = map_has _ a s st at (is_any _ st.edges k (Atom (kind_of x) r) is (atom_by (kind_of x) _ r h))
+goes_takes a s (elem _ n c w) r (d, (st, at, (k, is)), t) h = map_has _ a s st at (any_passes_from_place _ st.edges k (Elem n d r) is (element_by n _ _ d r t h))
+goes_takes a s (leaf _ x w) r (st, at, (k, is)) h = map_has _ a s st at (any_passes_from_place _ st.edges k (Atom (kind_of x) r) is (atom_by (kind_of x) _ r h))
 
 -- the moves are those by the first tree of the forest
 abbrev pub MovesOf : List State → List Move → Plain → Type 0

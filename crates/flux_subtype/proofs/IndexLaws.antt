@@ -13,7 +13,8 @@ use Rattle.flux_subtype.specs.declared.index.Group.{Group}
 use Rattle.flux_subtype.specs.declared.index.Index.{Index}
 use Rattle.flux_subtype.specs.Going.{Has, HasEdge}
 use Rattle.flux_subtype.specs.Index.{Moves, Links, HasLink, moves_of, Listed, Differ, AreWide, AreWideLinks, AreWideGroups, IsWide, AddsMove, AddsLink, FindsLink, FindsGroup, AddsEdge, AddsEdges, IndexesBelow, Indexes, IndexesGroups, Follows, ByLinks}
-use Rattle.flux_subtype.proofs.Places.{get-end, get-push, get-set_here, get-set_other, some_is, below_or_at, same_or_not, has-append, has-last, has-push, has-nil, has-right, has-split, has-set, set-has}
+use Rattle.flux_auto.proofs.Items.{get-end, get-set_here, get-set_other, some_is, same_or_not}
+use Rattle.flux_subtype.proofs.Items.{get-push, below_or_at, has-append, has-last, has-push, has-nil, has-right, has-split, has-set, set-has}
 
 -- ---- moves
 

@@ -7,8 +7,10 @@ use Rattle.flux_subtype.specs.declared.kept.Recipe.{Recipe}
 use Rattle.flux_subtype.specs.declared.kept.Recipe.TheVariants.{Nothing, Leaf, Elem}
 use Rattle.flux_subtype.specs.declared.kept.Kept.{Kept}
 use Rattle.flux_subtype.specs.Going.{IsProfile}
-use Rattle.flux_subtype.specs.Kept.{sample, forest_of, forest_in, made, forests_after, forest_at, set_of, set_at, NamesEarlier, AreKept, Grows, IsKept, IsFresh, Keeps}
-use Rattle.flux_subtype.proofs.Places.{get-append, get-end, split_at, get-push, below_or_at, grows-refl, grows-get}
+use Rattle.flux_auto.specs.Witness.{sample}
+use Rattle.flux_subtype.specs.Kept.{forest_of, forest_in, made, forests_after, forest_at, set_of, set_at, NamesEarlier, AreKept, Grows, IsKept, IsFresh, Keeps}
+use Rattle.flux_auto.proofs.Items.{get-append, get-end, split_at}
+use Rattle.flux_subtype.proofs.Items.{get-push, below_or_at, grows-refl, grows-get}
 
 -- ---- forests
 

@@ -1,4 +1,4 @@
-pub mod Places
+pub mod Items
 pub mod SetLaws
 pub mod GoingLaws
 pub mod PartLaws

@@ -10,7 +10,8 @@ use Rattle.flux_auto.specs.Takes.{State, has, takes, EdgeBelow, EdgesBelow}
 use Rattle.flux_auto.specs.Automaton.{EdgesInside}
 use Rattle.flux_subtype.specs.Going.{Has, HasEdge}
 use Rattle.flux_subtype.specs.Part.{LeadInside, LeadsInto, AllLeadInto, IsClosed, missing, Extends, bare, part_of, IsPartOf}
-use Rattle.flux_subtype.proofs.Places.{some_is, below_or_at, grows-refl, grows-trans, grows-has, has-append, has-last, has-push, has-nil}
+use Rattle.flux_auto.proofs.Items.{some_is}
+use Rattle.flux_subtype.proofs.Items.{below_or_at, grows-refl, grows-trans, grows-has, has-append, has-last, has-push, has-nil}
 use Rattle.flux_subtype.proofs.GoingLaws.{takes_goes, goes_takes}
 
 same_value : (a b : Bool) → (a ≡ true) ↔ (b ≡ true) → a ≡ b

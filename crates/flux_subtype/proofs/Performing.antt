@@ -11,9 +11,10 @@ use Rattle.flux_subtype.specs.declared.kept.Recipe.TheVariants.{Nothing, Leaf, E
 use Rattle.flux_subtype.specs.declared.kept.Kept.{Kept}
 use Rattle.flux_subtype.specs.declared.witness.Task.{Task}
 use Rattle.flux_subtype.specs.declared.witness.Task.TheVariants.{Forest, End}
-use Rattle.flux_subtype.specs.Kept.{sample, made, forests_after, forest_at, NamesEarlier}
+use Rattle.flux_auto.specs.Witness.{sample}
+use Rattle.flux_subtype.specs.Kept.{made, forests_after, forest_at, NamesEarlier}
 use Rattle.flux_subtype.specs.Witness.{NameEarlier, act, act_all, MayBeDone, all_ends, AllName, all_work, Performs}
-use Rattle.flux_subtype.proofs.Places.{read_is}
+use Rattle.flux_subtype.proofs.Items.{read_is}
 use Rattle.flux_subtype.proofs.KeptLaws.{forest_at-recipe}
 
 -- ---- one task

@@ -1,7 +1,9 @@
 -- The search, from its beginning to its answer.
 use Rattle.std.proofs.Common.{◌≡◌, ◌⊎◌, ℕ, zero, suc, ◌<◌, ◌≤◌, List, [], length, Bool, true, false, Option, Some, None, slice_get, refl, sym, subst, ◌∙◌, inl, inr, arith}
+use Rattle.std.proofs.lemmas.Bool.{false_from_ne_true}
 use Rattle.flux_atom.specs.declared.atom.AtomKind.TheVariants as kind
 use Rattle.flux_trees.specs.Hedge.{Plain, nil}
+use Rattle.flux_schema.proofs.MarkLaws.{le_or}
 use Rattle.flux_auto.specs.declared.edge.Edge.TheVariants as edge
 use Rattle.flux_auto.specs.Takes.{State, has, takes}
 use Rattle.flux_subtype.specs.declared.index.Move.{Move}
@@ -15,7 +17,7 @@ use Rattle.flux_subtype.specs.Index.{AreWide, Indexes, ByAtom}
 use Rattle.flux_subtype.specs.Kept.{forest_at, AreKept, Grows, Keeps}
 use Rattle.flux_subtype.specs.Part.{IsPartOf}
 use Rattle.flux_subtype.specs.Search.{IsFound, IsAnswer, MovesBy, AreTrees, AddsTree, IsDone, IsAgainst}
-use Rattle.flux_subtype.proofs.Places.{has-nil}
+use Rattle.flux_subtype.proofs.Items.{has-nil}
 use Rattle.flux_subtype.proofs.KeptLaws.{grows-set_at, keeps_more}
 use Rattle.flux_subtype.proofs.Turning.{stands-grows}
 use Rattle.flux_subtype.proofs.CoverLaws.{all_covered, covered_right}
@@ -59,18 +61,13 @@ begun a index k0 ks t0 t1 t2 bools texts p is eb et ek e0 one two nothing long k
       ]
     ]
 
-le_or_lt : (m n : ℕ) → (m ≤ n) ⊎ (n < m)
-le_or_lt zero n = inl (omega arith)
-le_or_lt (suc m) zero = inr (omega arith)
-le_or_lt (suc m) (suc n) = elim (le_or_lt m n) [ inl h ↦ inl (omega (arith, h)) | inr h ↦ inr (omega (arith, h)) ]
-
 -- the profiles that were looked at, and those that are looked at now
 pub next_seen : (ks js ls : List Kept) (left right seen n : ℕ) → js ≡ ks → n ≡ length ks → Grows ks ls → ((i : ℕ) → i < seen → IsAgainst ks left right i → ⊥)
     → ((i : ℕ) → seen ≤ i → i < length js → IsAgainst js left right i → ⊥) → (i : ℕ) → i < n → IsAgainst ls left right i → ⊥
 next_seen ks js ls left right seen n e f g old new i l against =
     let inside : i < length ks = omega (arith, l, f) in
     let was : IsAgainst ks left right i = subst (λ p. (has p left ≡ true) × (has p right ≡ false)) (grows-set_at ks ls i g inside) against in
-    elim (le_or_lt seen i) [
+    elim (le_or seen i) [
       | inr lt ↦ old i lt was
       | inl le ↦ new i le (subst (λ k. i < length k) (sym e) inside) (subst (λ k. IsAgainst k left right i) (sym e) was)
     ]
@@ -80,10 +77,6 @@ pub answered_none : (a : List State) (ks : List Kept) (ts : List Tree) (left rig
 answered_none a ks ts left right done seen so_far le behind none v =
     covered_right a ks left right (λ i l. none i (omega (arith, l, le, behind))) v (all_covered a ks ts done le so_far v)
 
-not_taken : (b : Bool) → (b ≡ true → ⊥) → b ≡ false
-not_taken true f = absurd (f refl)
-not_taken false f = refl
-
 -- what is found in the part answers for the whole
 pub found_answers : (a part : List State) (ks : List Kept) (left right : ℕ) (found : Option ℕ) → IsPartOf a left right part → IsFound part ks left right found → IsAnswer a ks left right found
 found_answers a part ks left right None same f = λ v t. sym (same.right v) ∙ f v (same.left v ∙ t)
@@ -91,5 +84,5 @@ found_answers a part ks left right (Some i) same (kept, inside, (on, off)) = (
   kept.earlier,
   inside,
   sym (same.left (forest_at ks i)) ∙ (kept.profiles i inside left).0 on,
-  sym (same.right (forest_at ks i)) ∙ not_taken _ (λ t. (let x : true ≡ false = sym ((kept.profiles i inside right).1 t) ∙ off in cc)),
+  sym (same.right (forest_at ks i)) ∙ false_from_ne_true _ (λ t. (let x : true ≡ false = sym ((kept.profiles i inside right).1 t) ∙ off in cc)),
 )

@@ -7,19 +7,11 @@ use Rattle.std.proofs.lemmas.List.{get_or_append_left, get_or_push, get_or_past,
 use Rattle.std.proofs.lemmas.Grind.{get_or_default_zero}
 use Rattle.std.proofs.lemmas.Nat.{or_lt}
 use Rattle.std.proofs.lemmas.Nat.Bits.{bit_at-lt, bit_at-zero, shr_and_one, bit_at_or, bit_at_set_same, bit_at_set_other, same_from_bits_below}
+use Rattle.std.proofs.lemmas.Bool.{false_from_ne_true}
 use Rattle.flux_auto.specs.Takes.{has}
+use Rattle.flux_auto.proofs.Items.{same_or_not}
+use Rattle.flux_auto.proofs.Growing.{below_or_not}
 use Rattle.flux_subtype.specs.Set.{flag, flags, IsPacked, Joins}
-
-lt_or_le : (m n : ℕ) → (m < n) ⊎ (n ≤ m)
-lt_or_le m zero = inr (omega arith)
-lt_or_le zero (suc n) = inl (omega arith)
-lt_or_le (suc m) (suc n) = elim (lt_or_le m n) [ inl h ↦ inl (omega (arith, h)) | inr h ↦ inr (omega (arith, h)) ]
-
-same_or_not : (i j : ℕ) → (i ≡ j) ⊎ (i ≡ j → ⊥)
-same_or_not zero zero = inl refl
-same_or_not zero (suc j) = inr (λ e. omega (arith, e))
-same_or_not (suc i) zero = inr (λ e. omega (arith, e))
-same_or_not (suc i) (suc j) = elim (same_or_not i j) [ inl e ↦ inl (ap suc e) | inr ne ↦ inr (λ e. ne (omega (arith, e))) ]
 
 -- ---- the states of words
 
@@ -29,7 +21,7 @@ length-flags ws (suc n) = omega (arith, length-append (flags ws n) (flag ws n �
 
 has_below : (ws : List ℕ) (n s : ℕ) → s < n → has (flags ws n) s ≡ flag ws s
 has_below ws zero s h = absurd (omega (arith, h))
-has_below ws (suc n) s h = elim (lt_or_le s n) [
+has_below ws (suc n) s h = elim (below_or_not s n) [
   | inl lt ↦ get_or_append_left (flags ws n) (flag ws n ∷ []) false s (omega (arith, lt, length-flags ws n)) ∙ has_below ws n s lt
   | inr le ↦
       let e : n ≡ s = omega (arith, le, h) in
@@ -40,7 +32,7 @@ pub has-past : (ws : List ℕ) (n s : ℕ) → n ≤ s → has (flags ws n) s �
 has-past ws n s h = get_or_past (flags ws n) s false (omega (arith, h, length-flags ws n))
 
 pub has-flags : (ws : List ℕ) (n : ℕ) → IsPacked ws n → (s : ℕ) → has (flags ws n) s ≡ flag ws s
-has-flags ws n packed s = elim (lt_or_le s n) [
+has-flags ws n packed s = elim (below_or_not s n) [
   | inl lt ↦ has_below ws n s lt
   | inr le ↦ has-past ws n s le ∙ sym (packed.beyond s le)
 ]
@@ -83,7 +75,7 @@ same_words ws vs n p q e = ext_get_or 0 ws vs (p.long ∙ sym q.long) (λ k h. s
 -- ---- no states
 
 zeros : (m k : ℕ) → ◌≡◌ {A = ℕ} (get_or (replicate m 0) k 0) 0
-zeros m k = elim (lt_or_le k m) [ inl lt ↦ get_or-replicate m k 0 0 lt | inr le ↦ get_or_past (replicate m 0) k 0 (omega (arith, le, length-replicate {A = ℕ} m 0)) ]
+zeros m k = elim (below_or_not k m) [ inl lt ↦ get_or-replicate m k 0 0 lt | inr le ↦ get_or_past (replicate m 0) k 0 (omega (arith, le, length-replicate {A = ℕ} m 0)) ]
 
 flag-zeros : (m s : ℕ) → flag (replicate m 0) s ≡ false
 flag-zeros m s = ap (λ w. bit_at w (s % 64) == 1) (zeros m (s / 64)) ∙ ap (λ b. b == 1) (bit_at-zero (s % 64))
@@ -168,10 +160,6 @@ flag-join : (ws vs us : List ℕ) → Joins ws vs us → (s : ℕ) → (flag us 
 flag-join ws vs us joins s = digit_or _ _ _ (bit_at-lt (get_or ws (s / 64) 0) (s % 64)) (bit_at-lt (get_or vs (s / 64) 0) (s % 64))
     (ap (λ w. bit_at w (s % 64)) (joins.each (s / 64)) ∙ bit_at_or (get_or ws (s / 64) 0) (get_or vs (s / 64) 0) (s % 64))
 
-not_true : (b : Bool) → (b ≡ true → ⊥) → b ≡ false
-not_true true f = absurd (f refl)
-not_true false f = refl
-
 is_not : (b : Bool) → b ≡ false → b ≡ true → ⊥
 is_not b e f = (let x : true ≡ false = sym f ∙ e in cc)
 
@@ -179,7 +167,7 @@ pub packed-join : (ws vs us : List ℕ) (n : ℕ) → IsPacked ws n → IsPacked
 packed-join ws vs us n p q joins = record {
   long = joins.long ∙ p.long;
   small = λ k. subst (λ x. x < 2 ^ 64) (sym (joins.each k)) (or_lt 64 (get_or ws k 0) (get_or vs k 0) (p.small k) (q.small k));
-  beyond = λ s le. not_true (flag us s) (λ f. elim ((flag-join ws vs us joins s).0 f) [ inl g ↦ is_not _ (p.beyond s le) g | inr g ↦ is_not _ (q.beyond s le) g ]);
+  beyond = λ s le. false_from_ne_true (flag us s) (λ f. elim ((flag-join ws vs us joins s).0 f) [ inl g ↦ is_not _ (p.beyond s le) g | inr g ↦ is_not _ (q.beyond s le) g ]);
 }
 
 pub has-join : (ws vs us : List ℕ) (n : ℕ) → IsPacked ws n → IsPacked vs n → Joins ws vs us → (s : ℕ) → (has (flags us n) s ≡ true) ↔ ((has (flags ws n) s ≡ true) ⊎ (has (flags vs n) s ≡ true))

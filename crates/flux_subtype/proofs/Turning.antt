@@ -8,6 +8,7 @@ use Rattle.flux_atom.specs.Atom.{kind_of}
 use Rattle.flux_trees.specs.Hedge.{nil, elem, leaf}
 use Rattle.flux_auto.specs.declared.edge.Edge.{Edge}
 use Rattle.flux_auto.specs.Takes.{State, has, takes}
+use Rattle.flux_auto.proofs.Recipes.{kind_of-sample}
 use Rattle.flux_subtype.specs.declared.index.Move.{Move}
 use Rattle.flux_subtype.specs.declared.index.Group.{Group}
 use Rattle.flux_subtype.specs.declared.kept.Kept.{Kept}
@@ -16,9 +17,11 @@ use Rattle.flux_subtype.specs.declared.trees.Head.TheVariants.{Atom, Elem}
 use Rattle.flux_subtype.specs.declared.trees.Tree.{Tree}
 use Rattle.flux_subtype.specs.Going.{Has, IsProfile}
 use Rattle.flux_subtype.specs.Index.{AreWide, AreWideGroups, ByAtom, ByElement, ByLinks, IndexesGroups}
-use Rattle.flux_subtype.specs.Kept.{sample, set_of, made, forests_after, forest_at, set_at, NamesEarlier, AreKept, Grows, Keeps}
+use Rattle.flux_auto.specs.Witness.{sample}
+use Rattle.flux_subtype.specs.Kept.{set_of, made, forests_after, forest_at, set_at, NamesEarlier, AreKept, Grows, Keeps}
 use Rattle.flux_subtype.specs.Search.{Fires, IsSilent, MovesBy, AreTrees, Stands, TreesGrow, AddsTree, IsElementOf, AddsElements, LabelsDone, Answered, AllAnswered, AnsweredBelow, recipe_of, Puts, Fills, FillsAll, IsDone, Turned}
-use Rattle.flux_subtype.proofs.Places.{read_is, has-last, has-push, has-nil, some_is, below_or_at, same_or_not, grows-refl, grows-trans, grows-length, grows-get, grows-has}
+use Rattle.flux_auto.proofs.Items.{some_is, same_or_not}
+use Rattle.flux_subtype.proofs.Items.{read_is, has-last, has-push, has-nil, below_or_at, grows-refl, grows-trans, grows-length, grows-get, grows-has}
 use Rattle.flux_subtype.proofs.GoingLaws.{element_moves, fires_profile}
 use Rattle.flux_subtype.proofs.IndexLaws.{no_group}
 use Rattle.flux_subtype.proofs.KeptLaws.{grows-set_at, keeps_more}
@@ -62,10 +65,6 @@ ends_one a p q k b below is on long inserts = record {
 
 -- ---- a tree and a rest
 
-kind-sample : (k : AtomKind) → kind_of (sample k) ≡ k
-kind-sample kind.Bool = refl
-kind-sample kind.Text = refl
-
 names_earlier : (a : List State) (ks : List Kept) (head : Head) (moves : List Move) (r : ℕ) → MovesBy a ks head moves → r < length ks → NamesEarlier (length ks) (recipe_of head r)
 names_earlier a ks (Atom k) moves r by h = h
 names_earlier a ks (Elem n c) moves r by h = (by.0, h)
@@ -73,7 +72,7 @@ names_earlier a ks (Elem n c) moves r by h = (by.0, h)
 recipe_profile : (a : List State) (ks : List Kept) (head : Head) (moves : List Move) (r : ℕ) (p : List Bool) → AreKept a ks → MovesBy a ks head moves → r < length ks → Fires moves (set_at ks r) p
     → IsProfile a p (made (forests_after [] ks) (recipe_of head r))
 recipe_profile a ks (Atom k) moves r p are by h f =
-    fires_profile a moves (set_at ks r) p (leaf tt (sample k) (forest_at ks r)) (subst (λ x. ByAtom a x moves) (sym (kind-sample k)) by) (λ e. cc) (are.profiles r h) f
+    fires_profile a moves (set_at ks r) p (leaf tt (sample k) (forest_at ks r)) (subst (λ x. ByAtom a x moves) (sym (kind_of-sample k)) by) (λ e. cc) (are.profiles r h) f
 recipe_profile a ks (Elem n c) moves r p are by h f =
     fires_profile a moves (set_at ks r) p (elem tt n (forest_at ks c) (forest_at ks r)) (element_moves a n (set_at ks c) moves (forest_at ks c) (forest_at ks r) by.1 (are.profiles c by.0)) (λ e. cc) (are.profiles r h) f
 

@@ -1,20 +1,12 @@
 -- The profiles that are kept, each with how a forest that has it is made.
 use Rattle.std.specs.Prelude.{◌≡◌, ◌⊎◌, ℕ, ◌<◌, List, [], ◌∷◌, ◌++◌, Bool, false, Option, Some, None, length, slice_get}
-use Rattle.flux_atom.specs.declared.atom.Atom.{Atom}
-use Rattle.flux_atom.specs.declared.atom.Atom.TheVariants.{Bool as Truth, Text as Words}
-use Rattle.flux_atom.specs.declared.atom.AtomKind.{AtomKind}
-use Rattle.flux_atom.specs.declared.atom.AtomKind.TheVariants as kind
 use Rattle.flux_trees.specs.Hedge.{Plain, nil, elem, leaf}
 use Rattle.flux_auto.specs.Takes.{State}
+use Rattle.flux_auto.specs.Witness.{sample}
 use Rattle.flux_subtype.specs.declared.kept.Recipe.{Recipe}
 use Rattle.flux_subtype.specs.declared.kept.Recipe.TheVariants.{Nothing, Leaf, Elem}
 use Rattle.flux_subtype.specs.declared.kept.Kept.{Kept}
 use Rattle.flux_subtype.specs.Going.{IsProfile}
-
--- an atom of the kind
-abbrev pub sample : AtomKind → Atom
-sample kind.Bool = Truth false
-sample kind.Text = Words []
 
 abbrev pub forest_of : Option Plain → Plain
 forest_of None = nil

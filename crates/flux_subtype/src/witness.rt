@@ -1,7 +1,8 @@
 // The forest that a recipe makes.
 ghost use Rattle.std.specs.Prelude.{◌≡◌, ◌<◌, IfOk, length};
 ghost use Rattle.flux_trees.specs.Draft.{done};
-ghost use Rattle.flux_subtype.specs.Kept.{sample, forest_at};
+ghost use Rattle.flux_auto.specs.Witness.{sample};
+ghost use Rattle.flux_subtype.specs.Kept.{forest_at};
 ghost use Rattle.flux_subtype.specs.Witness.{NameEarlier, MayBeDone, Performs};
 
 use crate::kept::{Kept, Recipe};

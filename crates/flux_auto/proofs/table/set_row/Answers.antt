@@ -1,7 +1,7 @@
 use Rattle.std.proofs.Common.{refl}
 use Rattle.std.proofs.lemmas.List.{length-set}
 use Rattle.flux_auto.specs.declared.table.Row.{Row}
-use Rattle.flux_auto.proofs.Tables.{get-set_here, get-set_other}
+use Rattle.flux_auto.proofs.Items.{get-set_here, get-set_other}
 use Rattle.flux_auto.proofs.table.set_row.Goals as goal
 
 pub returns : goal.returns

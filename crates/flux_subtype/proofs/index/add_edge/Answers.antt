@@ -1,7 +1,7 @@
 use Rattle.std.proofs.Common.{refl, sym, subst, arith}
 use Rattle.std.proofs.lemmas.Option.{slice_get_within}
 use Rattle.flux_subtype.specs.Index.{AddsEdge}
-use Rattle.flux_subtype.proofs.Places.{read_is}
+use Rattle.flux_subtype.proofs.Items.{read_is}
 use Rattle.flux_subtype.proofs.IndexLaws.{adds_link}
 use Rattle.flux_subtype.proofs.index.add_edge.Goals as goal
 

@@ -1,4 +1,4 @@
-use Rattle.flux_subtype.proofs.Places.{read_is}
+use Rattle.flux_subtype.proofs.Items.{read_is}
 use Rattle.flux_subtype.proofs.IndexLaws.{no_edges, next_edge}
 use Rattle.flux_subtype.proofs.index.add_edges.Goals as goal
 

@@ -1,7 +1,8 @@
 use Rattle.std.proofs.Common.{◌≡◌, ◌∙◌, ap, sym, refl, slice_get, Some}
 use Rattle.std.proofs.lemmas.Option.{slice_get_within}
 use Rattle.flux_subtype.specs.declared.index.Move.{Move}
-use Rattle.flux_subtype.proofs.Places.{read_is, some_is}
+use Rattle.flux_auto.proofs.Items.{some_is}
+use Rattle.flux_subtype.proofs.Items.{read_is}
 use Rattle.flux_subtype.proofs.IndexLaws.{more_at, one_more}
 use Rattle.flux_subtype.proofs.index.add_move.Goals as goal
 

@@ -1,6 +1,6 @@
 use borrow.Author.Rules.{rules}
 use Rattle.std.proofs.Common.{◌≡◌}
-use Rattle.flux_subtype.proofs.Places.{read_is}
+use Rattle.flux_subtype.proofs.Items.{read_is}
 use Rattle.flux_subtype.proofs.IndexLaws.{next_group, none_of_groups}
 use Rattle.flux_subtype.proofs.index.group_of.Goals as goal
 

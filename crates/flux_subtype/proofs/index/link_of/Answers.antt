@@ -1,6 +1,6 @@
 use Rattle.std.proofs.Common.{◌∙◌, ap}
 use Rattle.flux_subtype.specs.declared.index.Link.{Link}
-use Rattle.flux_subtype.proofs.Places.{read_is}
+use Rattle.flux_subtype.proofs.Items.{read_is}
 use Rattle.flux_subtype.proofs.index.link_of.Goals as goal
 
 pub returns-then-links-index : goal.returns-then-links-index

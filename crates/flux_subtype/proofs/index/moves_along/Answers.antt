@@ -1,5 +1,5 @@
 use Rattle.std.proofs.Common.{◌∙◌, ◌++◌, sym, ap, subst}
-use Rattle.flux_subtype.proofs.Places.{read_is}
+use Rattle.flux_subtype.proofs.Items.{read_is}
 use Rattle.flux_subtype.proofs.IndexLaws.{FollowsBelow, no_links, skip_link, follow_link, all_links}
 use Rattle.flux_subtype.proofs.index.moves_along.Goals as goal
 use Rattle.flux_subtype.proofs.index.moves_along.Goals.{then-has+in_ok-add_copies, else-has}

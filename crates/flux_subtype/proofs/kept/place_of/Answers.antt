@@ -1,6 +1,6 @@
 use Rattle.std.proofs.Common.{◌≡◌, ◌∙◌, sym, ap, refl, inl, inr, false, true}
 use Rattle.flux_subtype.specs.Kept.{set_at}
-use Rattle.flux_subtype.proofs.Places.{below_or_at}
+use Rattle.flux_subtype.proofs.Items.{below_or_at}
 use Rattle.flux_subtype.proofs.Turning.{set_at-read}
 use Rattle.flux_subtype.proofs.kept.place_of.Goals as goal
 

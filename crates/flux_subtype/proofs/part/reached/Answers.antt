@@ -1,6 +1,6 @@
 use Rattle.std.proofs.Common.{◌∙◌, subst, sym, arith}
 use Rattle.flux_subtype.specs.Going.{Has}
-use Rattle.flux_subtype.proofs.Places.{has-last}
+use Rattle.flux_subtype.proofs.Items.{has-last}
 use Rattle.flux_subtype.proofs.Turning.{edges_at}
 use Rattle.flux_subtype.proofs.PartLaws.{follows-begin, follows-next, edges_inside}
 use Rattle.flux_subtype.proofs.part.reached.Goals as goal

@@ -1,5 +1,5 @@
 use Rattle.std.proofs.Common.{inl, inr}
-use Rattle.flux_subtype.proofs.Places.{read_is}
+use Rattle.flux_subtype.proofs.Items.{read_is}
 use Rattle.flux_subtype.proofs.Turning.{no_fill_all, next_fill_all, moves_by-grows, Begins}
 use Rattle.flux_subtype.proofs.search.fill_all.Goals as goal
 use Rattle.flux_subtype.proofs.search.fill_all.Goals.{then-index-before, else-index-before}

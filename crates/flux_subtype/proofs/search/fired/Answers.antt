@@ -1,5 +1,5 @@
 use Rattle.std.proofs.Common.{◌∙◌, ◌+◌, sym, ap, length, subst}
-use Rattle.flux_subtype.proofs.Places.{read_is}
+use Rattle.flux_subtype.proofs.Items.{read_is}
 use Rattle.flux_subtype.proofs.Firing.{FiresBelow, none_fired, skip_move, fire_move, all_fired}
 use Rattle.flux_subtype.proofs.search.fired.Goals as goal
 use Rattle.flux_subtype.proofs.search.fired.Goals.{then-has, else-has}

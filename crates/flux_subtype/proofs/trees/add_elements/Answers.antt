@@ -1,6 +1,6 @@
 use Rattle.std.proofs.Common.{sym, subst}
 use Rattle.flux_subtype.specs.Index.{Follows, AreWideLinks}
-use Rattle.flux_subtype.proofs.Places.{read_is}
+use Rattle.flux_subtype.proofs.Items.{read_is}
 use Rattle.flux_subtype.proofs.IndexLaws.{group_moves}
 use Rattle.flux_subtype.proofs.Turning.{adds_below_none, adds_below_next, adds_all}
 use Rattle.flux_subtype.proofs.trees.add_elements.Goals as goal

@@ -1,6 +1,6 @@
 use Rattle.std.proofs.Common.{◌∙◌, ap, sym, refl}
 use Rattle.flux_subtype.specs.declared.trees.Tree.{Tree}
-use Rattle.flux_subtype.proofs.Places.{read_is}
+use Rattle.flux_subtype.proofs.Items.{read_is}
 use Rattle.flux_subtype.proofs.trees.has_moves.Goals as goal
 
 pub returns-then-are_same : goal.returns-then-are_same
