@@ -53,7 +53,8 @@ leaps_at a kind.Text = a.texts.items
 
 -- the edges were added, each at its label or its kind, after those that were there
 pub record Adds (old new : Arcs) (edges : List (ℕ × Edge)) : Type 0 where
-  pub arcs : (n : ℕ) → arcs_at new.by_label.items n ≡ arcs_at old.by_label.items n ++ arcs_of n edges
+  pub arcs : (n : ℕ)
+      → arcs_at new.by_label.items n ≡ arcs_at old.by_label.items n ++ arcs_of n edges
   pub leaps : (k : AtomKind) → leaps_at new k ≡ leaps_at old k ++ leaps_of k edges
 
 -- at each label and each kind just the edges of the rows that go by it, in order

@@ -37,7 +37,8 @@ pub record KeepsStates (old new : List State) : Type 0 where
 
 -- each state that an edge names is one of the automaton's
 abbrev pub EdgesInside : List State → Type 0
-EdgesInside states = (s : ℕ) (state : State) → slice_get states s ≡ Some state → EdgesBelow (length states) state.edges
+EdgesInside states = (s : ℕ) (state : State) → slice_get states s ≡ Some state
+    → EdgesBelow (length states) state.edges
 
 -- ---- codes
 
@@ -58,14 +59,23 @@ to_edge-from_edge (Elem n c r) = refl
 
 -- the code of an edge
 abbrev pub edge_code : Coded Edge
-edge_code = code_by ((Bool × ℕ) ⊎ (ℕ × (ℕ × ℕ))) (coded⊎ (coded× coded_bool coded_ℕ) (coded× coded_ℕ (coded× coded_ℕ coded_ℕ))) from_edge to_edge to_edge-from_edge
+edge_code =
+    code_by ((Bool × ℕ) ⊎ (ℕ × (ℕ × ℕ)))
+    (coded⊎ (coded× coded_bool coded_ℕ) (coded× coded_ℕ (coded× coded_ℕ coded_ℕ)))
+    from_edge to_edge to_edge-from_edge
 
 -- the code of a state
 abbrev pub state_code : Coded State
-state_code = code_by (Bool × List Edge) (coded× coded_bool (coded_list edge_code)) (λ s. (s.ends, s.edges)) (λ p. record { ends = p.0; edges = p.1 }) (λ _. refl)
+state_code =
+    code_by (Bool × List Edge) (coded× coded_bool (coded_list edge_code))
+    (λ s. (s.ends, s.edges)) (λ p. record { ends = p.0; edges = p.1 }) (λ _. refl)
 
 -- the code of an automaton
 abbrev pub automaton_code : Coded Automaton
 automaton_code =
-    code_by (Definitions × (List Ty × (List ℕ × List State))) (coded× definitions_code (coded× (coded_list ty_code) (coded× (coded_list coded_ℕ) (coded_list state_code))))
-    (λ a. (a.definitions, (a.types, (a.starts, a.states)))) (λ p. record { definitions = p.0; types = p.1.0; starts = p.1.1.0; states = p.1.1.1 }) (λ _. refl)
+    code_by (Definitions × (List Ty × (List ℕ × List State)))
+    (coded× definitions_code
+    (coded× (coded_list ty_code) (coded× (coded_list coded_ℕ) (coded_list state_code))))
+    (λ a. (a.definitions, (a.types, (a.starts, a.states))))
+    (λ p. record { definitions = p.0; types = p.1.0; starts = p.1.1.0; states = p.1.1.1 })
+    (λ _. refl)

@@ -24,7 +24,8 @@ pub record Grows (n : ℕ) (a b : Table) : Type 0 where
   pub longer : n ≤ length b.rows.items
 
 -- a state more
-pub record Put (a b : Table) (head : Ty) (tail : ℕ) (ends : Bool) (edges : List Edge) (s : ℕ) : Type 0 where
+pub record Put (a b : Table) (head : Ty) (tail : ℕ) (ends : Bool) (edges : List Edge)
+    (s : ℕ) : Type 0 where
   pub state : s ≡ length a.cells.items
   pub cell : Cell
   pub row : Row
@@ -64,15 +65,18 @@ pub record IsOwn (defs : Definitions) (cs : List Cell) (s : ℕ) (r : Row) : Typ
 pub record IsClosed (defs : Definitions) (cs : List Cell) (s : ℕ) (r : Row) : Type 0 where
   pub below : EdgesBelow (length cs) r.edges.items
   pub sound : (z : Plain) → FollowsAny defs (lists cs) r.edges.items z → In defs z (at (lists cs) s)
-  pub complete : (z : Plain) → (z ≡ nil → ⊥) → In defs z (at (lists cs) s) → FollowsAny defs (lists cs) r.edges.items z
+  pub complete : (z : Plain) → (z ≡ nil → ⊥) → In defs z (at (lists cs) s)
+      → FollowsAny defs (lists cs) r.edges.items z
   pub ends : (r.ends ≡ true) ↔ In defs nil (at (lists cs) s)
 
 -- the rows from n on have their own edges
 abbrev pub OwnFrom : Definitions → ℕ → Table → Type 0
-OwnFrom defs n b = (s : ℕ) (r : Row) → n ≤ s → slice_get b.rows.items s ≡ Some r → IsOwn defs b.cells.items s r
+OwnFrom defs n b =
+    (s : ℕ) (r : Row) → n ≤ s → slice_get b.rows.items s ≡ Some r → IsOwn defs b.cells.items s r
 
 -- what reading a type gives: states more, and edges
-pub record Linear (defs : Definitions) (a b : Table) (t : Ty) (tail : ℕ) (es : List Edge) : Type 0 where
+pub record Linear (defs : Definitions) (a b : Table) (t : Ty) (tail : ℕ)
+    (es : List Edge) : Type 0 where
   pub even : IsEven b
   pub own : OwnFrom defs (length a.rows.items) b
   pub reads : Reads defs b.cells.items t tail es
@@ -107,7 +111,8 @@ states_of a = map state_of a.rows.items
 
 -- the rows below n have all edges of their states
 abbrev pub ClosedBelow : Definitions → ℕ → Table → Type 0
-ClosedBelow defs n a = (s : ℕ) (r : Row) → s < n → slice_get a.rows.items s ≡ Some r → IsClosed defs a.cells.items s r
+ClosedBelow defs n a =
+    (s : ℕ) (r : Row) → s < n → slice_get a.rows.items s ≡ Some r → IsClosed defs a.cells.items s r
 
 -- the state stands for a type alone, whose contents have states
 pub record Awaits (n : ℕ) (cs : List Cell) (s : ℕ) : Type 0 where
@@ -121,8 +126,10 @@ pub record Filled (defs : Definitions) (a b : Table) (s : ℕ) : Type 0 where
   pub even : IsEven b
   pub more : List Cell
   pub cells : b.cells.items ≡ a.cells.items ++ more
-  pub others : (i : ℕ) → i < length a.rows.items → (i ≡ s → ⊥) → slice_get b.rows.items i ≡ slice_get a.rows.items i
-  pub own : (i : ℕ) (r : Row) → (i ≡ s) ⊎ (length a.rows.items ≤ i) → slice_get b.rows.items i ≡ Some r → IsOwn defs b.cells.items i r
+  pub others : (i : ℕ) → i < length a.rows.items → (i ≡ s → ⊥)
+      → slice_get b.rows.items i ≡ slice_get a.rows.items i
+  pub own : (i : ℕ) (r : Row) → (i ≡ s) ⊎ (length a.rows.items ≤ i)
+      → slice_get b.rows.items i ≡ Some r → IsOwn defs b.cells.items i r
 
 -- it has all its edges; the other rows are as they were
 pub record Closed (defs : Definitions) (a b : Table) (s : ℕ) : Type 0 where
@@ -144,6 +151,7 @@ pub record IsBegun (a : Table) : Type 0 where
   pub closed : (defs : Definitions) → ClosedBelow defs 1 a
 
 -- a table with a state of a type
-pub record Extended (defs : Definitions) (names : List Bool) (a : Table) (t : Ty) (s : ℕ) : Type 0 where
+pub record Extended (defs : Definitions) (names : List Bool) (a : Table) (t : Ty)
+    (s : ℕ) : Type 0 where
   pub complete : IsComplete defs names a
   pub content : IsContent a.cells.items s t

@@ -17,4 +17,5 @@ MarksSound defs names = (x : ℕ) → has names x ≡ true → Member defs nil (
 pub record Marks (defs : Definitions) (before after : List Bool) (more : Bool) : Type 0 where
   pub sound : MarksSound defs before → MarksSound defs after
   pub fewer : more ≡ true → unmarked after < unmarked before
-  pub all : more ≡ false → (x : ℕ) (t : Ty) → body_of defs x ≡ Some t → empties (has after) t ≡ true → has after x ≡ true
+  pub all : more ≡ false → (x : ℕ) (t : Ty) → body_of defs x ≡ Some t → empties (has after) t ≡ true
+      → has after x ≡ true

@@ -18,35 +18,45 @@ use Rattle.flux_auto.specs.Built.{Grows, Put, IsSet, IsEven, Linear}
 -- An aim is what is to hold of a table and of the edges that were found.
 
 -- a type is read before a state: whatever edges it gives, the aim holds with them
-pub record ComesType (defs : Definitions) (t : Ty) (tail : ℕ) (aim : Table → List Edge → Type 0) (a : Table) (es : List Edge) : Type 0 where
+pub record ComesType (defs : Definitions) (t : Ty) (tail : ℕ) (aim : Table → List Edge → Type 0)
+    (a : Table) (es : List Edge) : Type 0 where
   pub ready : Ready (length defs) a.cells.items t
   pub there : tail < length a.cells.items
-  pub meets : (b : Table) (more : List Edge) → Grows (length a.rows.items) a b → Linear defs a b t tail more → aim b (es ++ more)
+  pub meets : (b : Table) (more : List Edge) → Grows (length a.rows.items) a b
+      → Linear defs a b t tail more → aim b (es ++ more)
 
 -- the first part of a sequence is read before a new state, which has the edges from a place on:
 -- the aim holds with its edges, and with those of the second part where the first may be empty
-pub record ComesFirst (defs : Definitions) (t u : Ty) (tail from : ℕ) (aim : Table → List Edge → Type 0) (a : Table) (es : List Edge) : Type 0 where
+pub record ComesFirst (defs : Definitions) (t u : Ty) (tail from : ℕ)
+    (aim : Table → List Edge → Type 0) (a : Table) (es : List Edge) : Type 0 where
   pub ready : Ready (length defs) a.cells.items t
   pub there : tail < length a.cells.items
   pub within : from ≤ length es
-  pub meets : (b c : Table) (s : ℕ) (ends nulls : Bool) (first : List Edge) → Put a b u tail ends (drop from es) s → (ends ≡ true) ↔ Member defs nil u → (nulls ≡ true) ↔ Member defs nil t
-      → Grows (length b.rows.items) b c → Linear defs b c t s first → aim c (cond nulls es (take from es) ++ first)
+  pub meets : (b c : Table) (s : ℕ) (ends nulls : Bool) (first : List Edge)
+      → Put a b u tail ends (drop from es) s
+      → (ends ≡ true) ↔ Member defs nil u → (nulls ≡ true) ↔ Member defs nil t
+      → Grows (length b.rows.items) b c → Linear defs b c t s first
+      → aim c (cond nulls es (take from es) ++ first)
 
 -- a state from n on is given the edges from a place on: the aim holds then
-pub record ComesRow (n s from : ℕ) (aim : Table → List Edge → Type 0) (a : Table) (es : List Edge) : Type 0 where
+pub record ComesRow (n s from : ℕ) (aim : Table → List Edge → Type 0) (a : Table)
+    (es : List Edge) : Type 0 where
   pub late : n ≤ s
   pub there : s < length a.rows.items
   pub within : from ≤ length es
   pub meets : (b : Table) → IsSet a b s true (drop from es) → aim b es
 
 -- the aim holds when the task is done
-abbrev pub Comes : Definitions → ℕ → Task → (Table → List Edge → Type 0) → Table → List Edge → Type 0
+abbrev pub Comes : Definitions → ℕ → Task → (Table → List Edge → Type 0) → Table → List Edge
+    → Type 0
 Comes defs n (Read t k) aim = ComesType defs (ty_of t.now) k aim
-Comes defs n (First p) aim = ComesFirst defs (ty_of p.left.now) (ty_of p.right.now) p.next p.from aim
+Comes defs n (First p) aim =
+    ComesFirst defs (ty_of p.left.now) (ty_of p.right.now) p.next p.from aim
 Comes defs n (Row s i) aim = ComesRow n s i aim
 
 -- the aim holds when all tasks are done, the last first
-abbrev pub AllCome : Definitions → ℕ → List Task → (Table → List Edge → Type 0) → Table → List Edge → Type 0
+abbrev pub AllCome : Definitions → ℕ → List Task → (Table → List Edge → Type 0) → Table → List Edge
+    → Type 0
 AllCome defs n [] aim = aim
 AllCome defs n (k ∷ ks) aim = AllCome defs n ks (Comes defs n k aim)
 
@@ -79,26 +89,32 @@ IsEffort defs f = IsGood defs → (x : ℕ) (t : Ty) → body_of defs x ≡ Some
 -- ---- a step
 
 -- the edges that were there and then those of the type
-pub record HasRead (defs : Definitions) (t : Ty) (tail : ℕ) (a : Table) (old : List Edge) (b : Table) (all : List Edge) : Type 0 where
+pub record HasRead (defs : Definitions) (t : Ty) (tail : ℕ) (a : Table) (old : List Edge)
+    (b : Table) (all : List Edge) : Type 0 where
   pub grows : Grows (length a.rows.items) a b
   pub more : List Edge
   pub edges : all ≡ old ++ more
   pub linear : Linear defs a b t tail more
 
 -- tasks were added, fewer than the type takes, which come to the edges of the type
-pub record Opens (defs : Definitions) (t : Ty) (tail : ℕ) (a : Table) (v : Work) (b : Table) (w : Work) : Type 0 where
+pub record Opens (defs : Definitions) (t : Ty) (tail : ℕ) (a : Table) (v : Work) (b : Table)
+    (w : Work) : Type 0 where
   pub even : IsEven b
   pub more : List Task
   pub tasks : w.tasks.items ≡ v.tasks.items ++ more
-  pub come : AllCome defs (length a.rows.items) more (HasRead defs t tail a v.edges.items) b w.edges.items
+  pub come : AllCome defs (length a.rows.items) more
+      (HasRead defs t tail a v.edges.items) b w.edges.items
   pub fewer : (f : ℕ → ℕ) → IsEffort defs f → all_effort f more < effort f t
 
 -- a state was put for the second part of a sequence, whose edges stay where the first part may be
 -- empty, and the first part is to be read before it
-pub record PutsSecond (names : List Bool) (p : Pair) (a : Table) (v : Work) (b : Table) (w : Work) : Type 0 where
+pub record PutsSecond (names : List Bool) (p : Pair) (a : Table) (v : Work) (b : Table)
+    (w : Work) : Type 0 where
   pub state : ℕ
-  pub put : Put a b (ty_of p.right.now) p.next (empties (has names) (ty_of p.right.now)) (drop p.from v.edges.items) state
-  pub edges : w.edges.items ≡ cond (empties (has names) (ty_of p.left.now)) v.edges.items (take p.from v.edges.items)
+  pub put : Put a b (ty_of p.right.now) p.next (empties (has names) (ty_of p.right.now))
+      (drop p.from v.edges.items) state
+  pub edges : w.edges.items ≡ cond (empties (has names) (ty_of p.left.now)) v.edges.items
+      (take p.from v.edges.items)
   pub tasks : w.tasks.items ≡ v.tasks.items ++ Read p.left state ∷ []
 
 -- a state was given the edges from a place on

@@ -48,7 +48,8 @@ FollowsAny defs ts (e ∷ es) z = Follows defs ts e z ⊎ FollowsAny defs ts es 
 
 -- the forest is a member of t that isn't empty, and then one of the list
 abbrev pub Starts : Definitions → Ty → List Ty → Plain → Type 0
-Starts defs t k z = (v : Plain) × (w : Plain) × (join v w ≡ z) × (v ≡ nil → ⊥) × Member defs v t × In defs w k
+Starts defs t k z =
+    (v : Plain) × (w : Plain) × (join v w ≡ z) × (v ≡ nil → ⊥) × Member defs v t × In defs w k
 
 -- whether the empty forest is a member, where q tells it of the names
 abbrev pub empties : (ℕ → Bool) → Ty → Bool
@@ -91,9 +92,12 @@ Ready n cs (named x) = x < n
 abbrev pub BodiesReady : Definitions → List Cell → Type 0
 BodiesReady defs cs = (x : ℕ) (t : Ty) → body_of defs x ≡ Some t → Ready (length defs) cs t
 
--- edges of a type and then the list of a state: they go by just the forests that begin with the type
-pub record Reads (defs : Definitions) (cs : List Cell) (t : Ty) (tail : ℕ) (es : List Edge) : Type 0 where
+-- edges of a type and then the list of a state: they go by just the forests that begin with the
+-- type
+pub record Reads (defs : Definitions) (cs : List Cell) (t : Ty) (tail : ℕ)
+    (es : List Edge) : Type 0 where
   pub tail_below : tail < length cs
   pub below : EdgesBelow (length cs) es
   pub sound : (z : Plain) → FollowsAny defs (lists cs) es z → Starts defs t (at (lists cs) tail) z
-  pub complete : (z : Plain) → Starts defs t (at (lists cs) tail) z → FollowsAny defs (lists cs) es z
+  pub complete : (z : Plain) → Starts defs t (at (lists cs) tail) z
+      → FollowsAny defs (lists cs) es z

@@ -16,7 +16,8 @@ SomeEdge P (e ∷ es) = P e ⊎ SomeEdge P es
 -- the edge is an element of the label, its first state takes the content and its second the rest
 abbrev pub GoesByElement : List State → ℕ → Plain → Plain → Edge → Type 0
 GoesByElement states n c r (Atom k q) = ⊥
-GoesByElement states n c r (Elem m i q) = (m ≡ n) × (takes states i c ≡ true) × (takes states q r ≡ true)
+GoesByElement states n c r (Elem m i q) =
+    (m ≡ n) × (takes states i c ≡ true) × (takes states q r ≡ true)
 
 -- the edge is an atom of the kind, and its state takes the rest
 abbrev pub GoesByAtom : List State → AtomKind → Plain → Edge → Type 0
@@ -26,6 +27,10 @@ GoesByAtom states k r (Elem m i q) = ⊥
 -- a state takes the empty forest exactly where it ends, and a tree and a rest exactly where one of
 -- its edges goes by them
 pub record TakesByEdges (states : List State) : Type 0 where
-  pub nothing : (s : ℕ) (state : State) → slice_get states s ≡ Some state → (takes states s nil ≡ true) ↔ (state.ends ≡ true)
-  pub element : (s : ℕ) (state : State) (n : ℕ) (c r : Plain) → slice_get states s ≡ Some state → (takes states s (elem tt n c r) ≡ true) ↔ SomeEdge (GoesByElement states n c r) state.edges
-  pub atom : (s : ℕ) (state : State) (x : Value) (r : Plain) → slice_get states s ≡ Some state → (takes states s (leaf tt x r) ≡ true) ↔ SomeEdge (GoesByAtom states (kind_of x) r) state.edges
+  pub nothing : (s : ℕ) (state : State) → slice_get states s ≡ Some state
+      → (takes states s nil ≡ true) ↔ (state.ends ≡ true)
+  pub element : (s : ℕ) (state : State) (n : ℕ) (c r : Plain) → slice_get states s ≡ Some state
+      → (takes states s (elem tt n c r) ≡ true) ↔ SomeEdge (GoesByElement states n c r) state.edges
+  pub atom : (s : ℕ) (state : State) (x : Value) (r : Plain) → slice_get states s ≡ Some state
+      → (takes states s (leaf tt x r) ≡ true)
+      ↔ SomeEdge (GoesByAtom states (kind_of x) r) state.edges

@@ -55,15 +55,19 @@ place places s = slice_index_or places s None
 -- the recipe of an edge whose states have places
 abbrev pub recipe_by : List (Option ℕ) → Edge → Option Recipe
 recipe_by places (edge.Atom k q) = option_map (λ j. Atom k j) (place places q)
-recipe_by places (edge.Elem n c q) = option_and_then (λ i. option_map (λ j. Elem n i j) (place places q)) (place places c)
+recipe_by places (edge.Elem n c q) =
+    option_and_then (λ i. option_map (λ j. Elem n i j) (place places q)) (place places c)
 
 -- the recipe is of a state's end or of one of its edges
 abbrev pub IsRecipe : Row → List (Option ℕ) → Recipe → Type 0
-IsRecipe row places r = ((row.ends ≡ true) × (r ≡ End)) ⊎ ((i : ℕ) × (e : Edge) × (slice_get row.edges.items i ≡ Some e) × (recipe_by places e ≡ Some r))
+IsRecipe row places r = ((row.ends ≡ true) × (r ≡ End))
+    ⊎ ((i : ℕ) × (e : Edge) × (slice_get row.edges.items i ≡ Some e)
+    × (recipe_by places e ≡ Some r))
 
 -- a state doesn't end, and no edge has a recipe
 abbrev pub Lacks : Row → List (Option ℕ) → Type 0
-Lacks row places = (row.ends ≡ false) × ((i : ℕ) (e : Edge) → slice_get row.edges.items i ≡ Some e → recipe_by places e ≡ None)
+Lacks row places = (row.ends ≡ false)
+    × ((i : ℕ) (e : Edge) → slice_get row.edges.items i ≡ Some e → recipe_by places e ≡ None)
 
 -- how many states have no place
 abbrev pub unplaced : List (Option ℕ) → ℕ
@@ -75,11 +79,13 @@ unplaced (Some i ∷ places) = unplaced places
 pub record Knows (rows : List Row) (known : Witnesses) : Type 0 where
   pub len : length known.places.items ≡ length rows
   pub older : AreOlder known.recipes.items
-  pub sound : (s i : ℕ) → place known.places.items s ≡ Some i → (i < length known.recipes.items) × (takes (map state_of rows) s (forest_at (forests known.recipes.items) i) ≡ true)
+  pub sound : (s i : ℕ) → place known.places.items s ≡ Some i → (i < length known.recipes.items)
+      × (takes (map state_of rows) s (forest_at (forests known.recipes.items) i) ≡ true)
 
 -- a state that has no place lacks a forest, as far as is known
 abbrev pub SettledBelow : List Row → List (Option ℕ) → ℕ → Type 0
-SettledBelow rows places n = (s : ℕ) (r : Row) → s < n → slice_get rows s ≡ Some r → place places s ≡ None → Lacks r places
+SettledBelow rows places n =
+    (s : ℕ) (r : Row) → s < n → slice_get rows s ≡ Some r → place places s ≡ None → Lacks r places
 
 abbrev pub Settled : List Row → List (Option ℕ) → Type 0
 Settled rows places = SettledBelow rows places (length rows)
@@ -89,7 +95,8 @@ pub record Tried (rows : List Row) (old new : Witnesses) (s : ℕ) (more : Bool)
   pub knows : Knows rows new
   pub fewer : more ≡ true → unplaced new.places.items < unplaced old.places.items
   pub same : more ≡ false → new.places.items ≡ old.places.items
-  pub lacks : more ≡ false → (r : Row) → slice_get rows s ≡ Some r → place new.places.items s ≡ None → Lacks r new.places.items
+  pub lacks : more ≡ false → (r : Row) → slice_get rows s ≡ Some r → place new.places.items s ≡ None
+      → Lacks r new.places.items
 
 -- the states below n were tried
 pub record Round (rows : List Row) (old new : Witnesses) (n : ℕ) (more : Bool) : Type 0 where

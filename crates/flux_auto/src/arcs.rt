@@ -82,7 +82,8 @@ fn make_place(by_label: &mut Vec<Vec<Arc>>, number: usize) -> Result<(), AllocEr
 }
 
 fn add_arc(arcs: &mut Arcs, label: Name, arc: Arc) -> Result<(), AllocError>
-    ensures { OnOk result (Adds arcs.old arcs.new ((arc.source, Elem label arc.content arc.next) ∷ [])) }
+    ensures { OnOk result
+        (Adds arcs.old arcs.new ((arc.source, Elem label arc.content arc.next) ∷ [])) }
 {
     let number = label.number() as usize;
     make_place(&mut arcs.by_label, number)?;

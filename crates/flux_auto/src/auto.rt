@@ -96,7 +96,8 @@ impl Auto {
         ensures types { OnOk result (self.new.types ≡ self.old.types ++ ty_of ty.now ∷ []) }
         ensures definitions { OnOk result (self.new.definitions ≡ self.old.definitions) }
         ensures states { OnOk result (KeepsStates self.old.states self.new.states) }
-        ensures starts { (i s : ℕ) → slice_get self.old.starts i ≡ Some s → slice_get self.new.starts i ≡ Some s }
+        ensures starts { (i s : ℕ)
+            → slice_get self.old.starts i ≡ Some s → slice_get self.new.starts i ≡ Some s }
         ensures err { OnErr result (self.new ≡ self.old) }
     {
         let alloc = *self.added.allocator();
@@ -111,13 +112,14 @@ impl Auto {
     }
 
     /// Whether a forest is a member of a type that was added. First it sorts the edges by what they
-    /// go by, which takes the time of going over them and the names up to the last label once. Then
-    /// each node takes the time of filling a truth value for each state, and of going over the edges
-    /// of its label alone, or of its kind of atom. The memory is that of the edges, and a truth value
-    /// for each state and each element that is open at once. It doesn't recurse.
+    /// go by, which takes the time of going over them and the names up to the last label once.
+    /// Then each node takes the time of filling a truth value for each state, and of going over the
+    /// edges of its label alone, or of its kind of atom. The memory is that of the edges, and a
+    /// truth value for each state and each element that is open at once. It doesn't recurse.
     pub fn member(&self, start: Start, view: View<'_>) -> Result<bool, AllocError>
         requires { start < length self.now.types }
-        ensures { IfOk result (λ found. IfSome (slice_get self.now.types start) (λ t. IsTrue found ↔ Member self.now.definitions (forest_of view.entry) t)) }
+        ensures { IfOk result (λ found. IfSome (slice_get self.now.types start)
+            (λ t. IsTrue found ↔ Member self.now.definitions (forest_of view.entry) t)) }
     {
         let alloc = *self.added.allocator();
         let rows = self.table.rows.as_slice();
@@ -130,7 +132,8 @@ impl Auto {
     /// at each step, as `X=a[Y],a[Y]` and `Y=b[Z],b[Z]`, so do the members, and memory is wanting.
     pub fn some(&self, start: Start) -> Result<Option<Forest>, AllocError>
         requires { start < length self.now.types }
-        ensures { IfOk result (λ found. IfSome (slice_get self.now.types start) (λ t. IsSomeMember self.now.definitions t found)) }
+        ensures { IfOk result (λ found. IfSome (slice_get self.now.types start)
+            (λ t. IsSomeMember self.now.definitions t found)) }
     {
         let alloc = *self.added.allocator();
         some_of(alloc, self.table.rows.as_slice(), self.added[start.0].state)

@@ -64,7 +64,8 @@ fn joined(mut edges: Vec<Edge>, more: &[Edge]) -> Result<Vec<Edge>, AllocError>
 fn close(alloc: Global, defs: &Defs, table: &mut Table, state: u64) -> Result<(), AllocError>
     requires even { IsEven table.old }
     requires here { state < length table.old.cells.items }
-    requires own { (r : Row) → slice_get table.old.rows.items state ≡ Some r → IsOwn defs.now table.old.cells.items state r }
+    requires own { (r : Row) → slice_get table.old.rows.items state ≡ Some r
+        → IsOwn defs.now table.old.cells.items state r }
     requires older { ClosedBelow defs.now state table.old }
     ensures grows { Grows state table.old table.new }
     ensures ok { OnOk result (Closed defs.now table.old table.new state) }

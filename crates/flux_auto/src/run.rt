@@ -79,7 +79,8 @@ fn set_of_element(
     rest: &[bool],
 ) -> Result<Vec<bool>, AllocError>
     requires { IsIndex rows.now arcs.now }
-    ensures { IfOk result (λ set. set.items ≡ profile_element (map state_of rows.now) label content.now rest.now) }
+    ensures { IfOk result (λ set.
+        set.items ≡ profile_element (map state_of rows.now) label content.now rest.now) }
 {
     let mut set = Vec::from_elem(alloc, false, rows.len())?;
     let labelled = arcs.for_label(label);
@@ -124,7 +125,8 @@ pub(crate) fn set_of(
     run: View<'_>,
 ) -> Result<Vec<bool>, AllocError>
     requires { IsIndex rows.now arcs.now }
-    ensures { IfOk result (λ set. set.items ≡ profile (map state_of rows.now) (forest_of run.entry)) }
+    ensures { IfOk result
+        (λ set. set.items ≡ profile (map state_of rows.now) (forest_of run.entry)) }
 {
     let mut outer: Vec<Open<'_>> = Vec::new(alloc);
     let mut trees = trees_of(alloc, run)?;

@@ -14,8 +14,8 @@ Has xs x = (k : ℕ) × (slice_get xs k ≡ Some x)
 abbrev pub HasEdge : List State → ℕ → Edge → Type 0
 HasEdge a s e = (state : State) × (slice_get a s ≡ Some state) × Has state.edges e
 
--- the state s goes by the first tree of the forest to the state r: by an atom of the tree's kind, or
--- by an element of its label whose state takes the content
+-- the state s goes by the first tree of the forest to the state r: by an atom of the tree's kind,
+-- or by an element of its label whose state takes the content
 abbrev pub Goes : List State → ℕ → Plain → ℕ → Type 0
 Goes a s nil r = ⊥
 Goes a s (elem _ n v w) r = (c : ℕ) × HasEdge a s (Elem n c r) × (takes a c v ≡ true)

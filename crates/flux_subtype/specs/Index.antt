@@ -21,7 +21,8 @@ Links links s c r = (l : Link) × Has links l × (l.content ≡ c) × Moves l.mo
 
 -- one of the links of the label's group goes so
 abbrev pub HasLink : List Group → ℕ → ℕ → ℕ → ℕ → Type 0
-HasLink groups s n c r = (group : Group) × Has groups group × (group.label ≡ n) × Links group.links.items s c r
+HasLink groups s n c r =
+    (group : Group) × Has groups group × (group.label ≡ n) × Links group.links.items s c r
 
 -- the moves by atoms of a kind
 abbrev pub moves_of : Index → AtomKind → List Move
@@ -35,7 +36,8 @@ Listed index s (Elem n c r) = HasLink index.groups.items s n c r
 
 -- different groups have different labels
 abbrev pub Differ : List Group → Type 0
-Differ groups = (i j : ℕ) (g h : Group) → slice_get groups i ≡ Some g → slice_get groups j ≡ Some h → g.label ≡ h.label → i ≡ j
+Differ groups = (i j : ℕ) (g h : Group) → slice_get groups i ≡ Some g → slice_get groups j ≡ Some h
+    → g.label ≡ h.label → i ≡ j
 
 -- each set is one of n states
 abbrev pub AreWide : ℕ → List Move → Type 0
@@ -84,7 +86,8 @@ pub record AddsEdge (n : ℕ) (old new : Index) (s : ℕ) (e : Edge) : Type 0 wh
 pub record AddsEdges (n : ℕ) (old new : Index) (s : ℕ) (es : List Edge) (k : ℕ) : Type 0 where
   pub differ : Differ old.groups.items → Differ new.groups.items
   pub wide : IsWide n new
-  pub listed : (t : ℕ) (f : Edge) → Listed new t f ↔ (Listed old t f ⊎ ((t ≡ s) × (i : ℕ) × (i < k) × (slice_get es i ≡ Some f)))
+  pub listed : (t : ℕ) (f : Edge) → Listed new t f
+      ↔ (Listed old t f ⊎ ((t ≡ s) × (i : ℕ) × (i < k) × (slice_get es i ≡ Some f)))
 
 -- just the edges of the states below k
 pub record IndexesBelow (a : List State) (k : ℕ) (index : Index) : Type 0 where
@@ -106,11 +109,13 @@ pub record IndexesGroups (a : List State) (groups : List Group) : Type 0 where
 
 -- the moves along links whose content's state is one of the profile's
 abbrev pub Follows : List Link → List Bool → List Move → Type 0
-Follows links p moves = (s r : ℕ) → Moves moves s r ↔ ((c : ℕ) × Links links s c r × (has p c ≡ true))
+Follows links p moves =
+    (s r : ℕ) → Moves moves s r ↔ ((c : ℕ) × Links links s c r × (has p c ≡ true))
 
 -- the moves by links of the label whose content's state is one of the profile's
 abbrev pub ByLinks : List Group → ℕ → List Bool → List Move → Type 0
-ByLinks groups n p moves = (s r : ℕ) → Moves moves s r ↔ ((c : ℕ) × HasLink groups s n c r × (has p c ≡ true))
+ByLinks groups n p moves =
+    (s r : ℕ) → Moves moves s r ↔ ((c : ℕ) × HasLink groups s n c r × (has p c ≡ true))
 
 -- the moves by an atom of a kind
 abbrev pub ByAtom : List State → AtomKind → List Move → Type 0
@@ -118,4 +123,5 @@ ByAtom a k moves = (s r : ℕ) → Moves moves s r ↔ HasEdge a s (Atom k r)
 
 -- the moves by an element of the label whose content has the profile
 abbrev pub ByElement : List State → ℕ → List Bool → List Move → Type 0
-ByElement a n p moves = (s r : ℕ) → Moves moves s r ↔ ((c : ℕ) × HasEdge a s (Elem n c r) × (has p c ≡ true))
+ByElement a n p moves =
+    (s r : ℕ) → Moves moves s r ↔ ((c : ℕ) × HasEdge a s (Elem n c r) × (has p c ≡ true))

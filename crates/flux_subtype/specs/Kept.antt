@@ -63,4 +63,5 @@ IsFresh ks p = (i : ℕ) → i < length ks → set_at ks i ≡ p → ⊥
 
 -- the profile is put at the end, unless it is kept already
 abbrev pub Keeps : List Kept → List Bool → Recipe → List Kept → Type 0
-Keeps ks p from ls = ((ls ≡ ks) × IsKept ks p) ⊎ (IsFresh ks p × ((k : Kept) × (k.set ≡ p) × (k.from ≡ from) × (ls ≡ ks ++ k ∷ [])))
+Keeps ks p from ls = ((ls ≡ ks) × IsKept ks p)
+    ⊎ (IsFresh ks p × ((k : Kept) × (k.set ≡ p) × (k.from ≡ from) × (ls ≡ ks ++ k ∷ [])))

@@ -34,7 +34,8 @@ missing (true ∷ p) = missing p
 missing (false ∷ p) = suc (missing p)
 
 -- the set and the list of states to be followed have grown: what is new in the set is in the list
-pub record Extends (used : List Bool) (pending : List ℕ) (more : List Bool) (later : List ℕ) : Type 0 where
+pub record Extends (used : List Bool) (pending : List ℕ) (more : List Bool)
+    (later : List ℕ) : Type 0 where
   pub long : length more ≡ length used
   pub kept : (s : ℕ) → has used s ≡ true → has more s ≡ true
   pub grows : (new : List ℕ) × (later ≡ pending ++ new)

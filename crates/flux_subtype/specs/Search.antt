@@ -30,7 +30,8 @@ MovesBy a ks (Atom k) moves = ByAtom a k moves
 MovesBy a ks (Elem n c) moves = (c < length ks) × ByElement a n (set_at ks c) moves
 
 abbrev pub AreTrees : List State → List Kept → List Tree → Type 0
-AreTrees a ks ts = (t : Tree) → Has ts t → AreWide (length a) t.moves.items × MovesBy a ks t.head t.moves.items
+AreTrees a ks ts =
+    (t : Tree) → Has ts t → AreWide (length a) t.moves.items × MovesBy a ks t.head t.moves.items
 
 -- a tree with the moves is kept, or there are none
 abbrev pub Stands : List Tree → List Move → Type 0
@@ -49,10 +50,12 @@ pub record AddsTree (ts us : List Tree) (head : Head) (moves : List Move) : Type
 -- the tree is an element whose content has the profile p, which is kept at c; its moves are as wide
 -- as those of the groups
 abbrev pub IsElementOf : List Group → List Bool → ℕ → Tree → Type 0
-IsElementOf groups p c t = (n : ℕ) × (t.head ≡ Elem n c) × ByLinks groups n p t.moves.items × ((w : ℕ) → AreWideGroups w groups → AreWide w t.moves.items)
+IsElementOf groups p c t = (n : ℕ) × (t.head ≡ Elem n c) × ByLinks groups n p t.moves.items
+    × ((w : ℕ) → AreWideGroups w groups → AreWide w t.moves.items)
 
 -- the elements of each label are kept, if they make new moves
-pub record AddsElements (groups : List Group) (p : List Bool) (c : ℕ) (ts us : List Tree) : Type 0 where
+pub record AddsElements (groups : List Group) (p : List Bool) (c : ℕ)
+    (ts us : List Tree) : Type 0 where
   pub grows : TreesGrow ts us
   pub stand : (n : ℕ) → (moves : List Move) × ByLinks groups n p moves × Stands us moves
   pub new : (t : Tree) → Has us t → Has ts t ⊎ IsElementOf groups p c t
@@ -67,11 +70,13 @@ Answered ks moves q = IsSilent moves q ⊎ ((i : ℕ) × (i < length ks) × Fire
 
 -- the trees, one after another, before each profile below n
 abbrev pub AllAnswered : List Kept → List Tree → ℕ → Type 0
-AllAnswered ks ts n = (t : Tree) (i : ℕ) → Has ts t → i < n → Answered ks t.moves.items (set_at ks i)
+AllAnswered ks ts n =
+    (t : Tree) (i : ℕ) → Has ts t → i < n → Answered ks t.moves.items (set_at ks i)
 
 -- the first m trees before each profile below n
 abbrev pub AnsweredBelow : List Kept → List Tree → ℕ → ℕ → Type 0
-AnsweredBelow ks ts m n = (k i : ℕ) (t : Tree) → k < m → slice_get ts k ≡ Some t → i < n → Answered ks t.moves.items (set_at ks i)
+AnsweredBelow ks ts m n = (k i : ℕ) (t : Tree) → k < m → slice_get ts k ≡ Some t → i < n
+    → Answered ks t.moves.items (set_at ks i)
 
 -- how a forest of a tree and the forest of a kept profile is made
 abbrev pub recipe_of : Head → ℕ → Recipe
@@ -79,7 +84,8 @@ recipe_of (Atom k) r = recipe.Leaf k r
 recipe_of (Elem n c) r = recipe.Elem n c r
 
 -- the tree is put before the profile q
-pub record Puts (a : List State) (ks ls : List Kept) (moves : List Move) (q : List Bool) : Type 0 where
+pub record Puts (a : List State) (ks ls : List Kept) (moves : List Move)
+    (q : List Bool) : Type 0 where
   pub kept : AreKept a ls
   pub grows : Grows ks ls
   pub answered : Answered ls moves q
@@ -126,4 +132,5 @@ IsFound a ks left right (Some i) = AreKept a ks × (i < length ks) × IsAgainst 
 -- none: the right state takes all that the left one takes; else a forest that it doesn't take
 abbrev pub IsAnswer : List State → List Kept → ℕ → ℕ → Option ℕ → Type 0
 IsAnswer a ks left right None = (v : Plain) → takes a left v ≡ true → takes a right v ≡ true
-IsAnswer a ks left right (Some i) = NameEarlier ks × (i < length ks) × (takes a left (forest_at ks i) ≡ true) × (takes a right (forest_at ks i) ≡ false)
+IsAnswer a ks left right (Some i) = NameEarlier ks × (i < length ks)
+    × (takes a left (forest_at ks i) ≡ true) × (takes a right (forest_at ks i) ≡ false)

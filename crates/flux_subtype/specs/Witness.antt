@@ -54,7 +54,8 @@ all_work ks [] = 0
 all_work ks (t ∷ ts) = work_of ks t + all_work ks ts
 
 -- a task is begun, and more tasks do the rest of it
-pub record Performs (ks : List Kept) (t : Task) (ts us : List Task) (d f : Draft (Unit {0})) : Type 0 where
+pub record Performs (ks : List Kept) (t : Task) (ts us : List Task)
+    (d f : Draft (Unit {0})) : Type 0 where
   pub more : List Task
   pub tasks : us ≡ ts ++ more
   pub same : act_all ks more f ≡ act ks t d

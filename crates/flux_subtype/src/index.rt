@@ -77,7 +77,8 @@ fn add_move(
 }
 
 fn link_of(links: &[Link], content: u64) -> Option<usize>
-    ensures { IfSome result (λ i. (l : Link) × (slice_get links.now i ≡ Some l) × (l.content ≡ content)) }
+    ensures { IfSome result
+        (λ i. (l : Link) × (slice_get links.now i ≡ Some l) × (l.content ≡ content)) }
 {
     for index in 0..links.len() {
         if links[index].content == content {
@@ -118,7 +119,8 @@ fn add_link(
 }
 
 fn group_of(groups: &[Group], label: Name) -> Option<usize>
-    ensures found { IfSome result (λ i. (g : Group) × (slice_get groups.now i ≡ Some g) × (g.label ≡ label)) }
+    ensures found { IfSome result
+        (λ i. (g : Group) × (slice_get groups.now i ≡ Some g) × (g.label ≡ label)) }
     ensures none { IfNone result ((g : Group) → Has groups.now g → g.label ≡ label → ⊥) }
 {
     for index in 0..groups.len() {
@@ -199,7 +201,8 @@ fn add_edges(
 ) -> Result<(), AllocError>
     requires wide { IsWide states index.old }
     requires state { state < states }
-    ensures { IfOk result (λ _. AddsEdges states index.old index.new state edges.now (length edges.now)) }
+    ensures { IfOk result
+        (λ _. AddsEdges states index.old index.new state edges.now (length edges.now)) }
 {
     for place in 0..edges.len() {
         add_edge(alloc, index, states, state, &edges[place])?;
@@ -241,7 +244,8 @@ pub(crate) fn moves_along(
     content: &Set,
 ) -> Result<Vec<Move>, AllocError>
     ensures follows { IfOk result (λ moves. Follows links.now content.now moves.items) }
-    ensures wide { IfOk result (λ moves. (n : ℕ) → AreWideLinks n links.now → AreWide n moves.items) }
+    ensures wide { IfOk result
+        (λ moves. (n : ℕ) → AreWideLinks n links.now → AreWide n moves.items) }
 {
     let mut moves = Vec::new(alloc);
     for place in 0..links.len() {

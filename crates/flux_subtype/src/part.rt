@@ -12,7 +12,8 @@ use std::marker::Model;
 // Puts a state into a set, and notes that its edges are still to be followed, unless it is there.
 fn reach(state: u64, used: &mut Set, pending: &mut Vec<u64>) -> Result<(), AllocError>
     requires { state < length used.old }
-    ensures extends { IfOk result (λ _. Extends used.old pending.old.items used.new pending.new.items) }
+    ensures extends { IfOk result
+        (λ _. Extends used.old pending.old.items used.new pending.new.items) }
     ensures there { IfOk result (λ _. has used.new state ≡ true) }
 {
     if used.has(state) {
@@ -25,7 +26,8 @@ fn reach(state: u64, used: &mut Set, pending: &mut Vec<u64>) -> Result<(), Alloc
 
 fn reach_along(edge: &Edge, used: &mut Set, pending: &mut Vec<u64>) -> Result<(), AllocError>
     requires { LeadInside (length used.old) edge.now }
-    ensures extends { IfOk result (λ _. Extends used.old pending.old.items used.new pending.new.items) }
+    ensures extends { IfOk result
+        (λ _. Extends used.old pending.old.items used.new pending.new.items) }
     ensures leads { IfOk result (λ _. LeadsInto used.new edge.now) }
 {
     match edge {
@@ -39,8 +41,10 @@ fn reach_along(edge: &Edge, used: &mut Set, pending: &mut Vec<u64>) -> Result<()
 }
 
 fn reach_along_all(edges: &[Edge], used: &mut Set, pending: &mut Vec<u64>) -> Result<(), AllocError>
-    requires { (i : ℕ) (e : Edge) → slice_get edges.now i ≡ Some e → LeadInside (length used.old) e }
-    ensures extends { IfOk result (λ _. Extends used.old pending.old.items used.new pending.new.items) }
+    requires { (i : ℕ) (e : Edge)
+        → slice_get edges.now i ≡ Some e → LeadInside (length used.old) e }
+    ensures extends { IfOk result
+        (λ _. Extends used.old pending.old.items used.new pending.new.items) }
     ensures lead { IfOk result (λ _. AllLeadInto used.new edges.now (length edges.now)) }
 {
     for index in 0..edges.len() {

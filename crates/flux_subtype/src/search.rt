@@ -80,7 +80,8 @@ fn put(
     requires tree { MovesBy part.now kept.old.items tree.now.head tree.now.moves.items }
     requires wide { AreWide (length part.now) tree.now.moves.items }
     requires rest { rest < length kept.old.items }
-    ensures { IfOk result (λ _. Puts part.now kept.old.items kept.new.items tree.now.moves.items (set_at kept.old.items rest)) }
+    ensures { IfOk result (λ _. Puts part.now kept.old.items kept.new.items tree.now.moves.items
+        (set_at kept.old.items rest)) }
 {
     if is_silent(&tree.moves, &kept[rest].set) {
         return Ok(guess);
@@ -105,7 +106,8 @@ fn fill(
     requires wide { AreWide (length part.now) tree.now.moves.items }
     requires from { from ≤ to }
     requires to { to ≤ length kept.old.items }
-    ensures { IfOk result (λ _. Fills part.now kept.old.items kept.new.items tree.now.moves.items from to) }
+    ensures { IfOk result
+        (λ _. Fills part.now kept.old.items kept.new.items tree.now.moves.items from to) }
 {
     let mut place = guess;
     for rest in from..to {
@@ -143,7 +145,8 @@ fn fill_all(
     requires trees { AreTrees part.now kept.old.items trees.now }
     requires done { done < length kept.old.items }
     requires answered { AnsweredBelow kept.old.items trees.now before done }
-    ensures { IfOk result (λ _. FillsAll part.now kept.old.items kept.new.items trees.now done (length trees.now)) }
+    ensures { IfOk result (λ _. FillsAll part.now kept.old.items kept.new.items trees.now done
+        (length trees.now)) }
 {
     for index in 0..trees.len() {
         let from = if index < before { done } else { 0 };
@@ -167,7 +170,8 @@ fn turn(
     requires so_far { IsDone part.now kept.old.items trees.old.items done }
     requires groups { IndexesGroups part.now groups.now }
     requires done { done < length kept.old.items }
-    ensures { IfOk result (λ _. Turned part.now kept.old.items kept.new.items trees.new.items done) }
+    ensures { IfOk result
+        (λ _. Turned part.now kept.old.items kept.new.items trees.new.items done) }
 {
     let before = trees.len();
     add_elements(alloc, groups, &kept[done].set, done, trees)?;
@@ -185,7 +189,8 @@ fn is_against(kept: &Kept, left: u64, right: u64) -> bool
 fn against(kept: &[Kept], from: usize, left: u64, right: u64) -> Option<usize>
     requires { from ≤ length kept.now }
     ensures some { IfSome result (λ i. (i < length kept.now) × IsAgainst kept.now left right i) }
-    ensures none { IfNone result ((i : ℕ) → from ≤ i → i < length kept.now → IsAgainst kept.now left right i → ⊥) }
+    ensures none { IfNone result ((i : ℕ) → from ≤ i → i < length kept.now
+        → IsAgainst kept.now left right i → ⊥) }
 {
     for index in from..kept.len() {
         if is_against(&kept[index], left, right) {

@@ -75,7 +75,8 @@ impl Set {
     pub(crate) fn join(&mut self, other: &Set)
         requires { length self.old ≡ length other.now }
         ensures long { length self.new ≡ length self.old }
-        ensures has { (s : ℕ) → (has self.new s ≡ true) ↔ ((has self.old s ≡ true) ⊎ (has other.now s ≡ true)) }
+        ensures has { (s : ℕ)
+            → (has self.new s ≡ true) ↔ ((has self.old s ≡ true) ⊎ (has other.now s ≡ true)) }
     {
         join_words(&mut self.words, &other.words);
     }

@@ -80,7 +80,8 @@ pub(crate) fn add_elements(
     trees: &mut Vec<Tree>,
 ) -> Result<(), AllocError>
     requires { Differ groups.now }
-    ensures { IfOk result (λ _. AddsElements groups.now set.now content trees.old.items trees.new.items) }
+    ensures { IfOk result
+        (λ _. AddsElements groups.now set.now content trees.old.items trees.new.items) }
 {
     for index in 0..groups.len() {
         let group = &groups[index];

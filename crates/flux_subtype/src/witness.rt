@@ -36,7 +36,8 @@ fn perform(
 ) -> Result<(), AllocError>
     requires earlier { NameEarlier kept.now }
     requires may { MayBeDone kept.now forest.old task }
-    ensures { IfOk result (λ _. Performs kept.now task tasks.old.items tasks.new.items forest.old forest.new) }
+    ensures { IfOk result (λ _. Performs kept.now task tasks.old.items tasks.new.items
+        forest.old forest.new) }
 {
     let place = match task {
         Task::End => {
