@@ -6,6 +6,7 @@ use Rattle.flux_atom.specs.declared.atom.Atom.TheVariants.{Bool as Truth}
 use Rattle.flux_trees.specs.Hedge.{Plain, nil, elem, leaf, join, trees}
 use Rattle.flux_trees.specs.Each.{EachLabel, EachAtom}
 use Rattle.flux_trees.specs.Same.{same}
+use Rattle.flux_trees.proofs.EachLaws.{EachLabel-join, EachAtom-join}
 use Rattle.flux_calculus.specs.declared.ask.Test.{Test}
 use Rattle.flux_calculus.specs.declared.ask.Var.{Var}
 use Rattle.flux_calculus.specs.Tests.{matches}
@@ -16,18 +17,6 @@ use Rattle.flux_calculus.specs.Core.{Core, Proc, Procs, proc_of}
 use Rattle.flux_calculus.specs.Derives.{bound_first, bound_to, Derives, DerivesEach, skips, ends, follows, takes_yes, takes_no, binds, notes, inserts, deletes, renames, tests, passes, enters, goes_left, goes_right, iterates, calls, each_end, each_more}
 use Rattle.flux_calculus.specs.Brings.{Holds, AllHold, QueryBrings, QueriesBring, CoreBrings, ProcsBring}
 
-module _ (P : ℕ → Type 0) where
-  pub labels-join : (v w : Plain) → EachLabel P v → EachLabel P w → EachLabel P (join v w)
-  labels-join nil w a b = b
-  labels-join (elem _ n c r) w a b = (a.0, a.1, labels-join r w a.2 b)
-  labels-join (leaf _ x r) w a b = labels-join r w a b
-
-module _ (Q : Atom → Type 0) where
-  pub atoms-join : (v w : Plain) → EachAtom Q v → EachAtom Q w → EachAtom Q (join v w)
-  atoms-join nil w a b = b
-  atoms-join (elem _ n c r) w a b = (a.0, atoms-join r w a.1 b)
-  atoms-join (leaf _ x r) w a b = (a.0, atoms-join r w a.1 b)
-
 module _ (P : ℕ → Type 0) (Q : Atom → Type 0) where
   -- it holds of each of the forests
   abbrev EachHolds : List Plain → Type 0
@@ -35,7 +24,7 @@ module _ (P : ℕ → Type 0) (Q : Atom → Type 0) where
   EachHolds (v ∷ vs) = Holds P Q v × EachHolds vs
 
   holds-join : (v w z : Plain) → join v w ≡ z → Holds P Q v → Holds P Q w → Holds P Q z
-  holds-join v w z e a b = subst (λ x. Holds P Q x) e (labels-join P v w a.0 b.0, atoms-join Q v w a.1 b.1)
+  holds-join v w z e a b = subst (λ x. Holds P Q x) e (EachLabel-join P v w a.0 b.0, EachAtom-join Q v w a.1 b.1)
 
   of_trees : (v : Plain) → Holds P Q v → EachHolds (trees v)
   of_trees nil a = tt

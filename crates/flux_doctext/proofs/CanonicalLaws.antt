@@ -4,7 +4,7 @@ use Rattle.std.proofs.lemmas.List.{append-nil}
 use Rattle.std.specs.List.{flat_map}
 use Rattle.flux_atom.specs.declared.atom.Atom.{Atom}
 use Rattle.flux_atom.specs.declared.atom.Atom.TheVariants.{Bool as Truth, Text}
-use Rattle.flux_atom.specs.Names.{name_text}
+use Rattle.flux_atom.specs.Names.{name_text, IsTable}
 use Rattle.flux_atom.specs.Literal.{escaped, literal}
 use Rattle.flux_atom.specs.Spelling.{IsLiteral}
 use Rattle.flux_atom.proofs.TextLaws.{canonical_items}
@@ -63,7 +63,10 @@ module _ (names : List (List ℕ)) where
 pub unique_forest : SpelledForestIsUnique
 unique_forest names bytes v w x y = spelled_once names bytes v w x.table x.forest y.forest
 
+pub text_spells : (names : List (List ℕ)) (v : Plain) → IsTable names → EachLabel (NamesLabel names) v → EachAtom IsProper v → Spells names (text names v) v
+text_spells names v table labels atoms = record { table = table; forest = text_spelled names v labels atoms }
+
 pub canonical_spells : CanonicalTextSpells
 canonical_spells names v over =
-    let x : Spells names (text names v) v = record { table = over.table; forest = text_spelled names v over.labels over.atoms } in
+    let x = text_spells names v over.table over.labels over.atoms in
     (x, λ w y. unique_forest names (text names v) w v y x)

@@ -13,10 +13,12 @@ use Rattle.flux_atom.proofs.TextLaws.{items_utf8}
 use Rattle.flux_trees.specs.Hedge.{Plain, nil, elem, leaf, join}
 use Rattle.flux_trees.specs.Draft.{done, begun, add, begin, end}
 use Rattle.flux_trees.specs.Each.{EachLabel, EachAtom}
+use Rattle.flux_trees.proofs.EachLaws.{EachLabel-join, EachAtom-join}
 use Rattle.flux_doctext.specs.declared.sign.Sign.{Sign}
 use Rattle.flux_doctext.specs.declared.sign.Sign.TheVariants.{Space, Letter, Digit, Quote, Comma, LeftBracket, RightBracket, LeftParen, RightParen, Other}
 use Rattle.flux_doctext.specs.Spells.{Part, Spelled, none, some, nothing, something, last, more, element, atom}
 use Rattle.flux_doctext.specs.Text.{NamesLabel, IsProper}
+use Rattle.flux_doctext.specs.Documents.{SpelledForestIsOverTable}
 use Rattle.flux_doctext.specs.Labels.{labels, learnt}
 use Rattle.flux_doctext.specs.Reading.{sign_of, Shape, content, next, name, label, opened, closed, string, behind, Event, learn, enter, push, leave, Step, told, close_step, content_step, tree_step, behind_step, label_step, closed_step, opened_step, named_step, name_step, string_step, truth_of, step, end_named, end_step, number_of, PlainDraft, draft_after, names_after}
 use Rattle.flux_doctext.proofs.TextLaws.{slice_get-more, labels_within}
@@ -27,16 +29,6 @@ use Rattle.flux_doctext.proofs.StepLaws.{IsRead}
 use Rattle.flux_doctext.proofs.ReadLaws.{number_found}
 
 -- a forest that is spelled is one over the table
-
-EachLabel-join : (P : ℕ → Type 0) (g h : Plain) → EachLabel P g → EachLabel P h → EachLabel P (join g h)
-EachLabel-join P nil h p q = q
-EachLabel-join P (elem n a c r) h p q = (p.0, p.1, EachLabel-join P r h p.2 q)
-EachLabel-join P (leaf n x r) h p q = EachLabel-join P r h p q
-
-EachAtom-join : (P : Atom → Type 0) (g h : Plain) → EachAtom P g → EachAtom P h → EachAtom P (join g h)
-EachAtom-join P nil h p q = q
-EachAtom-join P (elem n a c r) h p q = (p.0, EachAtom-join P r h p.1 q)
-EachAtom-join P (leaf n x r) h p q = (p.0, EachAtom-join P r h p.1 q)
 
 pub spelled_labels : {names : List (List ℕ)} {part : Part} {bytes : List ℕ} {v : Plain} → Spelled names part bytes v → EachLabel (NamesLabel names) v
 spelled_labels (none s t u s_space t_space u_space split) = tt
@@ -50,7 +42,7 @@ spelled_labels {names} (element s text t inner u a s_space t_space u_space is at
     (subst (λ o. IsSomeAnd o IsLabel) (sym at) is, spelled_labels x, tt)
 spelled_labels (atom s spelled u x s_space u_space is split) = tt
 
-proper : (x : Atom) (spelled : List ℕ) → IsLiteral spelled x → IsProper x
+pub proper : (x : Atom) (spelled : List ℕ) → IsLiteral spelled x → IsProper x
 proper (Truth b) spelled is = tt
 proper (Text text) spelled is = items_utf8 is.0 text is.1
 
@@ -65,6 +57,13 @@ spelled_atoms (more front back v w x xs split joined) =
 spelled_atoms (element s text t inner u a s_space t_space u_space is at x split) =
     (spelled_atoms x, tt)
 spelled_atoms (atom s spelled u x s_space u_space is split) = (proper x spelled is, tt)
+
+pub spelled_over : SpelledForestIsOverTable
+spelled_over names bytes v x = record {
+  table = x.table;
+  labels = spelled_labels x.forest;
+  atoms = spelled_atoms x.forest;
+}
 
 -- the labels of what is read are below the number of names
 

@@ -4,8 +4,8 @@ use Rattle.std.proofs.lemmas.List.{append-nil, take-append-le, length-take}
 use Rattle.flux_atom.specs.declared.atom.Atom.{Atom}
 use Rattle.flux_atom.specs.Literal.{literal}
 use Rattle.flux_trees.specs.Hedge.{Plain, nil, elem, leaf, size}
-use Rattle.flux_trees.specs.Each.{EachLabel}
-use Rattle.flux_doctext.specs.Text.{name_text, comma, trees_text}
+use Rattle.flux_trees.specs.Each.{EachLabel, EachAtom}
+use Rattle.flux_doctext.specs.Text.{name_text, comma, trees_text, IsProper}
 
 -- the end of an element, and the trees behind it
 abbrev pub closing_run : List (List ℕ) → Plain → List ℕ
@@ -20,6 +20,15 @@ closing_text names (run ∷ outer) = closing_text names outer ++ closing_run nam
 abbrev pub EachRun : List (List ℕ) → List Plain → Type 0
 EachRun names [] = Unit {0}
 EachRun names (run ∷ outer) = EachLabel (λ a. a < length names) run × EachRun names outer
+
+-- each text of each run is characters
+abbrev pub AreProper : List Plain → Type 0
+AreProper [] = Unit {0}
+AreProper (run ∷ outer) = EachAtom IsProper run × AreProper outer
+
+-- the texts of the forest are characters where those are that are left to write
+abbrev pub ProperBy : Plain → Plain → List Plain → Type 0
+ProperBy h rest outer = EachAtom IsProper rest → AreProper outer → EachAtom IsProper h
 
 -- the steps that are left for the open elements
 abbrev pub steps_left : List Plain → ℕ
@@ -47,6 +56,28 @@ EachRun-pop names [] run e = (tt, e.0)
 EachRun-pop names (o ∷ outer) run e =
     let more = EachRun-pop names outer run e.1 in
     ((e.0, more.0), more.1)
+
+AreProper-push : (outer : List Plain) (run : Plain) → AreProper outer → EachAtom IsProper run → AreProper (outer ++ run ∷ [])
+AreProper-push [] run e p = (p, tt)
+AreProper-push (o ∷ outer) run e p = (e.0, AreProper-push outer run e.1 p)
+
+AreProper-pop : (outer : List Plain) (run : Plain) → AreProper (outer ++ run ∷ []) → AreProper outer × EachAtom IsProper run
+AreProper-pop [] run e = (tt, e.0)
+AreProper-pop (o ∷ outer) run e =
+    let more = AreProper-pop outer run e.1 in
+    ((e.0, more.0), more.1)
+
+-- an element is begun, an atom is written, an element ends
+pub proper_element : (h : Plain) (a : ℕ) (c r : Plain) (outer : List Plain) → ProperBy h (elem tt a c r) outer → ProperBy h c (outer ++ r ∷ [])
+proper_element h a c r outer by inside around =
+    let parts = AreProper-pop outer r around in
+    by (inside, parts.1) parts.0
+
+pub proper_atom : (h : Plain) (x : Atom) (r : Plain) (outer : List Plain) → IsProper x → ProperBy h (leaf tt x r) outer → ProperBy h r outer
+proper_atom h x r outer is by behind around = by (is, behind) around
+
+pub proper_end : (h run : Plain) (outer : List Plain) → ProperBy h nil (outer ++ run ∷ []) → ProperBy h run outer
+proper_end h run outer by behind around = by tt (AreProper-push outer run around behind)
 
 pub steps_left-push : (outer : List Plain) (run : Plain) → steps_left (outer ++ run ∷ []) ≡ steps_left outer + (2 * size run + 1)
 steps_left-push [] run = omega arith
@@ -93,6 +124,3 @@ module _ (names : List (List ℕ)) (start whole : List ℕ) (n : ℕ) (count : l
     where
       regroup : (between behind closing : List ℕ) → (done ++ (codes "]" ++ between)) ++ (behind ++ closing) ≡ done ++ ((codes "]" ++ (between ++ behind)) ++ closing)
       regroup between behind closing = simp append_assoc
-
-  pub all_written : (done : List ℕ) → IsWriting names start whole n done nil [] → done ≡ start ++ whole
-  all_written done i = sym (append-nil done) ∙ i.written

@@ -43,7 +43,8 @@ pub data Shape : Type 0 where
   -- behind a tree
   behind : Shape
 
--- what a byte tells of the forest: a label stands here, an element with this label begins, an atom, the end of an element
+-- what a byte tells of the forest: a label stands here, an element with this label begins, an atom,
+-- the end of an element
 pub data Event : Type 0 where
   learn : List ℕ → Event
   enter : List ℕ → Event

@@ -32,8 +32,10 @@ pub record HasGrown (old new : List (List ℕ)) (n : ℕ) : Type 0 where
   pub room : length new ≤ length old + n
   pub table : IsTable old → IsTable new
 
--- the step is taken: the reader is where it leads, and the table and the forest are as its events make them
-pub record IsTaken (old : List (List ℕ)) (step : Step) (d : PlainDraft) (new : List (List ℕ)) (grown : PlainDraft) (state : State) : Type 0 where
+-- the step is taken: the reader is where it leads, and the table and the forest are as its events
+-- make them
+pub record IsTaken (old : List (List ℕ)) (step : Step) (d : PlainDraft)
+    (new : List (List ℕ)) (grown : PlainDraft) (state : State) : Type 0 where
   pub events : List Event
   pub fits : step ≡ Some (shape_of new state, events)
   pub learns : new ≡ names_after events old
@@ -41,7 +43,8 @@ pub record IsTaken (old : List (List ℕ)) (step : Step) (d : PlainDraft) (new :
   pub sound : IsSound new state
 
 -- the step is taken, or there is none
-abbrev pub Follows : List (List ℕ) → Step → PlainDraft → List (List ℕ) → PlainDraft → Option State → Type 0
+abbrev pub Follows : List (List ℕ) → Step → PlainDraft →
+    List (List ℕ) → PlainDraft → Option State → Type 0
 Follows old step d new grown None = step ≡ None
 Follows old step d new grown (Some state) = IsTaken old step d new grown state
 
@@ -64,6 +67,9 @@ IsLonger text run _ = ⊥
 
 -- a run of bytes is passed: a name or a string goes on behind them, and elsewhere there are none
 abbrev pub Passes : State → List ℕ → ℕ → State → Type 0
-Passes (Name text) bytes n new = (n ≤ length bytes) × IsLonger (string_bytes text) (take n bytes) new
-Passes (Text r) bytes n new = (n ≤ length bytes) × (s : TextRead) × (read_text r (take n bytes) ≡ Some s) × (new ≡ Text s)
+Passes (Name text) bytes n new =
+    (n ≤ length bytes) × IsLonger (string_bytes text) (take n bytes) new
+Passes (Text r) bytes n new =
+    (n ≤ length bytes)
+    × (s : TextRead) × (read_text r (take n bytes) ≡ Some s) × (new ≡ Text s)
 Passes state bytes n new = (n ≡ 0) × (new ≡ state)

@@ -13,10 +13,13 @@ abbrev pub comma : Plain → List ℕ
 comma nil = []
 comma _ = codes ","
 
--- the trees, with commas between them: an element is its label and, in brackets, its content; an atom is its literal
+-- the trees, with commas between them: an element is its label and, in brackets, its content; an
+-- atom is its literal
 abbrev pub trees_text : List (List ℕ) → Plain → List ℕ
 trees_text names nil = []
-trees_text names (elem n a c r) = name_text names a ++ (codes "[" ++ (trees_text names c ++ (codes "]" ++ (comma r ++ trees_text names r))))
+trees_text names (elem n a c r) =
+    name_text names a
+    ++ (codes "[" ++ (trees_text names c ++ (codes "]" ++ (comma r ++ trees_text names r))))
 trees_text names (leaf n x r) = literal x ++ (comma r ++ trees_text names r)
 
 -- the canonical text: that of the trees, or `()` for none
@@ -39,6 +42,10 @@ pub record IsForestOver (names : List (List ℕ)) (h : Plain) : Type 0 where
   pub labels : EachLabel (NamesLabel names) h
   pub atoms : EachAtom IsProper h
 
--- where the text of each label is a label, the canonical text of a forest is that of no other forest
+-- where the text of each label is a label, the canonical text of a forest is that of no other
+-- forest
 abbrev pub TextTellsForest : Type 0
-TextTellsForest = (names : List (List ℕ)) → IsTable names → (v w : Plain) → EachLabel (NamesLabel names) v → EachLabel (NamesLabel names) w → text names v ≡ text names w → v ≡ w
+TextTellsForest =
+    (names : List (List ℕ)) → IsTable names → (v w : Plain) →
+    EachLabel (NamesLabel names) v → EachLabel (NamesLabel names) w →
+    text names v ≡ text names w → v ≡ w

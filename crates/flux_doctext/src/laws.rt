@@ -1,5 +1,5 @@
 // What the definitions of document text are good for.
-ghost use Rattle.flux_doctext.specs.Documents.{CanonicalTextSpells, SpelledForestIsUnique};
+ghost use Rattle.flux_doctext.specs.Documents.{CanonicalTextSpells, SpelledForestIsOverTable, SpelledForestIsUnique};
 ghost use Rattle.flux_doctext.specs.Text.{TextTellsForest};
 
 /// Where the text of each label is a label, the canonical text of a forest is the text of no other
@@ -17,4 +17,10 @@ pub fn canonical_text_spells()
 /// Bytes spell one forest at most. It does nothing: its contract is the law.
 pub fn spelled_forest_is_unique()
     ensures { SpelledForestIsUnique }
+{}
+
+/// Bytes that spell a forest over a table spell one whose labels are labels of the table, and whose
+/// texts are characters. It does nothing: its contract is the law.
+pub fn spelled_forest_is_over_table()
+    ensures { SpelledForestIsOverTable }
 {}

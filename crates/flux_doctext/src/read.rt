@@ -34,7 +34,8 @@ impl From<AllocError> for DocFault {
 /// text that is refused it may hold some, behind the names that it held.
 pub fn read_document(alloc: Global, bytes: &[u8], names: &mut Names) -> Result<Forest, DocFault>
     requires { length names.old + length bytes.now < 2 ^ 32 - 1 }
-    ensures ok { IfOk result (λ forest. (v : Plain) × (forest ≡ done v) × IsDocument names.old names.new bytes.now v) }
+    ensures ok { IfOk result (λ forest. (v : Plain)
+        × (forest ≡ done v) × IsDocument names.old names.new bytes.now v) }
     ensures fault { IfErr result (IsDocFault bytes.now) }
     ensures grown { (more : List (List ℕ)) × (names.new ≡ names.old ++ more) }
     ensures room { length names.new ≤ length names.old + length bytes.now }

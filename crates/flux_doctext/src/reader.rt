@@ -46,7 +46,9 @@ pub(crate) fn step(
     requires table { IsTable names.old }
     requires room { length names.old < 2 ^ 32 - 1 }
     ensures grown { HasGrown names.old names.new 1 }
-    ensures next { IfOk result (Follows names.old (step (shape_of names.old state) (depth forest.old) byte) forest.old names.new forest.new) }
+    ensures next { IfOk result (Follows names.old
+        (step (shape_of names.old state) (depth forest.old) byte)
+        forest.old names.new forest.new) }
 {
     let sign = Sign::of(byte);
     match state {
@@ -68,7 +70,8 @@ fn in_content(
     forest: &mut Forest,
 ) -> Result<Option<State>, AllocError>
     requires { sign ≡ sign_of byte }
-    ensures { (names : List (List ℕ)) → IfOk result (Follows names (content_step (depth forest.old) byte sign) forest.old names forest.new) }
+    ensures { (names : List (List ℕ)) → IfOk result (Follows names
+        (content_step (depth forest.old) byte sign) forest.old names forest.new) }
 {
     match sign {
         Sign::RightBracket => Ok(end_element(forest)),
@@ -80,7 +83,8 @@ fn in_content(
 // White space before a tree, or its first byte.
 fn at_tree(alloc: Global, state: State, sign: Sign, byte: u8) -> Result<Option<State>, AllocError>
     requires { sign ≡ sign_of byte }
-    ensures { (names : List (List ℕ)) (d : Draft (Unit {0})) → IsSound names state → IfOk result (Follows names (tree_step (shape_of names state) byte sign) d names d) }
+    ensures { (names : List (List ℕ)) (d : Draft (Unit {0})) → IsSound names state
+        → IfOk result (Follows names (tree_step (shape_of names state) byte sign) d names d) }
 {
     match sign {
         Sign::Space => Ok(Some(state)),
@@ -121,7 +125,9 @@ fn in_name(
     requires name { IsName (string_bytes text) }
     requires room { length names.old < 2 ^ 32 - 1 }
     ensures grown { HasGrown names.old names.new 1 }
-    ensures next { IfOk result (Follows names.old (name_step (string_bytes text) (depth forest.old) byte sign) forest.old names.new forest.new) }
+    ensures next { IfOk result (Follows names.old
+        (name_step (string_bytes text) (depth forest.old) byte sign)
+        forest.old names.new forest.new) }
 {
     match sign {
         Sign::Letter | Sign::Digit => {
@@ -142,7 +148,9 @@ fn behind_name(
     requires name { IsName (string_bytes text) }
     requires room { length names.old < 2 ^ 32 - 1 }
     ensures grown { HasGrown names.old names.new 1 }
-    ensures next { IfOk result (Follows names.old (named_step (string_bytes text) (truth_of (string_bytes text)) (depth forest.old) sign) forest.old names.new forest.new) }
+    ensures next { IfOk result (Follows names.old
+        (named_step (string_bytes text) (truth_of (string_bytes text)) (depth forest.old) sign)
+        forest.old names.new forest.new) }
 {
     if let Some(truth) = truth_in(text.as_str()) {
         forest.push_atom(Atom::Bool(truth))?;
@@ -158,7 +166,9 @@ fn behind_name(
 }
 
 fn behind_label(name: Name, sign: Sign, forest: &mut Forest) -> Result<Option<State>, AllocError>
-    ensures { (names : List (List ℕ)) → IsTable names → name < length names → IfOk result (Follows names (label_step (name_text names name) sign) forest.old names forest.new) }
+    ensures { (names : List (List ℕ)) → IsTable names → name < length names
+        → IfOk result (Follows names (label_step (name_text names name) sign)
+        forest.old names forest.new) }
 {
     match sign {
         Sign::Space => Ok(Some(State::Label(name))),
@@ -171,7 +181,8 @@ fn behind_label(name: Name, sign: Sign, forest: &mut Forest) -> Result<Option<St
 }
 
 fn in_parentheses(sign: Sign) -> Option<State>
-    ensures { (names : List (List ℕ)) (d : Draft (Unit {0})) → Follows names (opened_step sign) d names d result }
+    ensures { (names : List (List ℕ)) (d : Draft (Unit {0}))
+        → Follows names (opened_step sign) d names d result }
 {
     match sign {
         Sign::Space => Some(State::Opened),
@@ -181,7 +192,8 @@ fn in_parentheses(sign: Sign) -> Option<State>
 }
 
 fn behind_parentheses(sign: Sign, forest: &mut Forest) -> Option<State>
-    ensures { (names : List (List ℕ)) → Follows names (closed_step (depth forest.old) sign) forest.old names forest.new result }
+    ensures { (names : List (List ℕ))
+        → Follows names (closed_step (depth forest.old) sign) forest.old names forest.new result }
 {
     match sign {
         Sign::Space => Some(State::Closed),
@@ -192,7 +204,8 @@ fn behind_parentheses(sign: Sign, forest: &mut Forest) -> Option<State>
 
 fn in_text(mut text: TextReader, byte: u8, forest: &mut Forest) -> Result<Option<State>, AllocError>
     requires { (items : List ℕ) × (read_text no_text items ≡ Some text) }
-    ensures { (names : List (List ℕ)) → IfOk result (Follows names (string_step text (text_step text.0 byte)) forest.old names forest.new) }
+    ensures { (names : List (List ℕ)) → IfOk result (Follows names
+        (string_step text (text_step text.0 byte)) forest.old names forest.new) }
 {
     match text.take(byte)? {
         Taken::On => Ok(Some(State::Text(text))),
@@ -205,7 +218,8 @@ fn in_text(mut text: TextReader, byte: u8, forest: &mut Forest) -> Result<Option
 }
 
 fn behind_tree(sign: Sign, forest: &mut Forest) -> Option<State>
-    ensures { (names : List (List ℕ)) → Follows names (behind_step (depth forest.old) sign) forest.old names forest.new result }
+    ensures { (names : List (List ℕ))
+        → Follows names (behind_step (depth forest.old) sign) forest.old names forest.new result }
 {
     match sign {
         Sign::Space => Some(State::Behind),
@@ -217,7 +231,8 @@ fn behind_tree(sign: Sign, forest: &mut Forest) -> Option<State>
 
 // A bracket ends the element that was begun last.
 fn end_element(forest: &mut Forest) -> Option<State>
-    ensures { (names : List (List ℕ)) → Follows names (close_step (depth forest.old)) forest.old names forest.new result }
+    ensures { (names : List (List ℕ))
+        → Follows names (close_step (depth forest.old)) forest.old names forest.new result }
 {
     if forest.is_whole() {
         return None;
@@ -241,7 +256,8 @@ pub(crate) fn pass_plain(state: &mut State, bytes: &[u8]) -> Result<usize, Alloc
 fn pass_name(text: &mut String, bytes: &[u8]) -> Result<usize, AllocError>
     ensures within { IfOk result (λ count. count ≤ length bytes.now) }
     ensures name { IfOk result (λ count. AllPass continues_name (take count bytes.now)) }
-    ensures longer { IfOk result (λ count. string_bytes text.new ≡ string_bytes text.old ++ take count bytes.now) }
+    ensures longer { IfOk result (λ count.
+        string_bytes text.new ≡ string_bytes text.old ++ take count bytes.now) }
 {
     for place in 0..bytes.len() {
         let byte = bytes[place];
@@ -255,7 +271,8 @@ fn pass_name(text: &mut String, bytes: &[u8]) -> Result<usize, AllocError>
 
 // Whether the text may end here, where the last atom may end too.
 pub(crate) fn end(state: State, forest: &mut Forest) -> Result<bool, AllocError>
-    ensures { (names : List (List ℕ)) → IfOk result (Ends (end_step (shape_of names state)) forest.old forest.new) }
+    ensures { (names : List (List ℕ))
+        → IfOk result (Ends (end_step (shape_of names state)) forest.old forest.new) }
 {
     match state {
         State::Name(text) => end_name(text.as_str(), forest),

@@ -1,8 +1,10 @@
 // The canonical text of a forest.
 ghost use Rattle.std.specs.Prelude.{◌≡◌, ◌<◌, ◌++◌, length, take, codes, OnOk, OnErr, vec_len};
-ghost use Rattle.flux_trees.specs.Each.{EachLabel};
+ghost use Rattle.flux_atom.specs.Names.{IsTable};
+ghost use Rattle.flux_trees.specs.Each.{EachAtom, EachLabel};
 ghost use Rattle.flux_forest.specs.View.{forest_of};
-ghost use Rattle.flux_doctext.specs.Text.{name_text, comma, trees_text, text};
+ghost use Rattle.flux_doctext.specs.Spells.{Spells};
+ghost use Rattle.flux_doctext.specs.Text.{name_text, comma, trees_text, text, IsProper, NamesLabel};
 
 use flux_atom::{Name, Names, write_literal};
 use flux_forest::{First, View};
@@ -17,7 +19,13 @@ pub fn write_forest(
     out: &mut Vec<u8>,
 ) -> Result<(), AllocError>
     requires { EachLabel (λ a. a < length names.now) (forest_of view) }
-    ensures ok { OnOk result (out.new.items ≡ out.old.items ++ text names.now (forest_of view.entry)) }
+    ensures ok { OnOk result (out.new.items
+        ≡ out.old.items ++ text names.now (forest_of view.entry)) }
+
+    // Where its names are labels, that spells the forest: nothing is owed about its texts.
+    ensures spells { OnOk result (IsTable names.now
+        → EachLabel (NamesLabel names.now) (forest_of view.entry)
+        → Spells names.now (text names.now (forest_of view.entry)) (forest_of view.entry)) }
     ensures err { OnErr result (out.new.items ≡ out.old.items) }
 {
     let start = out.len();
@@ -36,7 +44,9 @@ fn push_forest(
     out: &mut Vec<u8>,
 ) -> Result<(), AllocError>
     requires { EachLabel (λ a. a < length names.now) (forest_of view) }
-    ensures ok { OnOk result (out.new.items ≡ out.old.items ++ text names.now (forest_of view.entry)) }
+    ensures ok { OnOk result (out.new.items
+        ≡ out.old.items ++ text names.now (forest_of view.entry)) }
+    ensures proper { OnOk result (EachAtom IsProper (forest_of view.entry)) }
     ensures err { OnErr result (take (vec_len out.old) out.new.items ≡ out.old.items) }
 {
     if view.is_empty() {
@@ -52,7 +62,9 @@ fn push_trees(
     out: &mut Vec<u8>,
 ) -> Result<(), AllocError>
     requires { EachLabel (λ a. a < length names.now) (forest_of view) }
-    ensures ok { OnOk result (out.new.items ≡ out.old.items ++ trees_text names.now (forest_of view.entry)) }
+    ensures ok { OnOk result (out.new.items
+        ≡ out.old.items ++ trees_text names.now (forest_of view.entry)) }
+    ensures proper { OnOk result (EachAtom IsProper (forest_of view.entry)) }
     ensures err { OnErr result (take (vec_len out.old) out.new.items ≡ out.old.items) }
 {
     // what is left at this level, and at each level around it, innermost last
@@ -86,7 +98,8 @@ fn push_trees(
 // The label, and the bracket behind it.
 fn push_start(name: Name, names: &Names, out: &mut Vec<u8>) -> Result<(), AllocError>
     requires { name < length names.now }
-    ensures ok { OnOk result (out.new.items ≡ out.old.items ++ (name_text names.now name ++ codes "[")) }
+    ensures ok { OnOk result (out.new.items
+        ≡ out.old.items ++ (name_text names.now name ++ codes "[")) }
     ensures err { OnErr result (take (vec_len out.old) out.new.items ≡ out.old.items) }
 {
     out.extend_from_slice(names.text(name).as_bytes())?;
@@ -96,7 +109,8 @@ fn push_start(name: Name, names: &Names, out: &mut Vec<u8>) -> Result<(), AllocE
 
 // The bracket that ends an element, and the comma before those behind it.
 fn push_end(others: View<'_>, out: &mut Vec<u8>) -> Result<(), AllocError>
-    ensures ok { OnOk result (out.new.items ≡ out.old.items ++ (codes "]" ++ comma (forest_of others.entry))) }
+    ensures ok { OnOk result (out.new.items
+        ≡ out.old.items ++ (codes "]" ++ comma (forest_of others.entry))) }
     ensures err { OnErr result (take (vec_len out.old) out.new.items ≡ out.old.items) }
 {
     out.push(b']')?;

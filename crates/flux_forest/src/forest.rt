@@ -83,12 +83,12 @@ impl Forest {
     }
 
     /// Adds copies of the trees of a run at the innermost place.
-    pub fn append(&mut self, alloc: Global, view: View<'_>) -> Result<(), AllocError>
+    pub fn append(&mut self, view: View<'_>) -> Result<(), AllocError>
         ensures ok { OnOk result (self.new ≡ add self.old (forest_of view.entry)) }
         ensures err { OnErr result (self.new ≡ self.old) }
     {
         let len = self.nodes.len();
-        if let Err(error) = push_copies(&mut self.nodes, alloc, view.nodes) {
+        if let Err(error) = push_copies(&mut self.nodes, view.nodes) {
             self.nodes.truncate(len);
             return Err(error);
         }

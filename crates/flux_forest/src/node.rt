@@ -76,14 +76,11 @@ pub(crate) fn are_same(nodes: &[Node], others: &[Node]) -> bool
 }
 
 // On want of memory some copies may stand behind the nodes that were there.
-pub(crate) fn push_copies(
-    nodes: &mut Vec<Node>,
-    alloc: Global,
-    copied: &[Node],
-) -> Result<(), AllocError>
+pub(crate) fn push_copies(nodes: &mut Vec<Node>, copied: &[Node]) -> Result<(), AllocError>
     ensures ok { OnOk result (nodes.new.items ≡ nodes.old.items ++ copied.now) }
     ensures err { OnErr result (take (length nodes.old.items) nodes.new.items ≡ nodes.old.items) }
 {
+    let alloc = *nodes.allocator();
     for node in copied {
         nodes.push(node.copy(alloc)?)?;
     }

@@ -142,7 +142,7 @@ impl<'a> View<'a> {
         ensures { IfOk result (λ copied. copied ≡ done (forest_of self.entry)) }
     {
         let mut forest = Forest::new(alloc);
-        forest.append(alloc, self)?;
+        forest.append(self)?;
         Ok(forest)
     }
 }

@@ -53,7 +53,8 @@ held_of folder = record { map = files_of folder; rest = None }
 abbrev pub FailsNext : MemFolder → Type 0
 FailsNext folder = Contains (fails_of folder) (one_more (calls_of folder))
 
--- a call counts itself, and a fault exactly where its number is one of those that fail; all else stays
+-- a call counts itself, and a fault exactly where its number is one of those that fail; all else
+-- stays
 pub record IsCall (old new : MemFolder) : Type 0 where
   pub files : files_of new ≡ files_of old
   pub fails : fails_of new ≡ fails_of old

@@ -12,7 +12,8 @@ abbrev pub faults_of : {R F D : Type 0} → RealFolder R F D → ℕ
 faults_of folder = folder.faults
 
 -- what is left of the file that is read, where the file tells
-abbrev pub remaining_of : {R F D : Type 0} → (F → Option (List ℕ)) → RealFolder R F D → Option (List ℕ)
+abbrev pub remaining_of : {R F D : Type 0} →
+    (F → Option (List ℕ)) → RealFolder R F D → Option (List ℕ)
 remaining_of remaining folder = option_and_then remaining folder.file
 
 -- where the bytes go

@@ -39,8 +39,9 @@ impl MemFolder {
     ghost use Rattle.flux_io.specs.declared.memory.Place.TheVariants.{Lost};
     ghost use Rattle.flux_io.specs.Memory.{files_of, fails_of, calls_of, faults_of, FailsNext, IsCall};
 
-    /// A folder of these files, by their names, whose calls of the numbers in `fails` fail.
-    pub fn new(files: Vec<(String, Vec<u8>)>, fails: Vec<u64>) -> MemFolder
+    /// A folder of these files, by their names, whose calls of the numbers in `fails` fail. It takes
+    /// no memory of its own.
+    pub fn new(_alloc: Global, files: Vec<(String, Vec<u8>)>, fails: Vec<u64>) -> MemFolder
         ensures holds { ⟦<MemFolder as Folder>⟧.holds result
             ≡ Some (record { map = listed files.items; rest = None }) }
         ensures left { ⟦<MemFolder as Folder>⟧.left result ≡ Some [] }
@@ -113,7 +114,8 @@ impl Folder for MemFolder {
         requires { 0 < length buf.old }
         ensures exact { IfOk result (λ n. n ≡ min (length buf.old) (length (rest_of self.old))) }
         ensures bound { IfOk result (λ n. n ≤ length buf.new) }
-        ensures end { IfOk result (λ n. IfSome (left_of self.old) (λ bytes. (n ≡ 0) ↔ (bytes ≡ []))) }
+        ensures end { IfOk result (λ n.
+            IfSome (left_of self.old) (λ bytes. (n ≡ 0) ↔ (bytes ≡ []))) }
         ensures taken { IfOk result (λ n.
             left_of self.old ≡ prepend_known (take n buf.new) (left_of self.new)) }
         ensures refused { OnErr result (left_of self.new ≡ None) }
@@ -134,8 +136,8 @@ impl Folder for MemFolder {
 
 /// A sink in memory, which tells what it holds.
 ///
-/// With a cap it takes bytes until it holds so many, of a longer write those that still fit. A write
-/// that begins at the cap fails, which is its only failure.
+/// With a cap it takes bytes until it holds so many, of a longer write those that still fit. A
+/// write that begins at the cap fails, which is its only failure.
 #[derive(Drop)]
 pub struct MemSink {
     bytes: Vec<u8>,
@@ -192,12 +194,14 @@ impl Sink for MemSink {
             n ≡ taken_of (cap_of self.old) (length (bytes_of self.old)) (length bytes.now)) }
         ensures some { IfOk result (λ n. 0 < n) }
         ensures bound { IfOk result (λ n. n ≤ length bytes.now) }
-        ensures taken { IfOk result (λ n. bytes_of self.new ≡ bytes_of self.old ++ take n bytes.now) }
+        ensures taken { IfOk result (λ n.
+            bytes_of self.new ≡ bytes_of self.old ++ take n bytes.now) }
         ensures refused { OnErr result (bytes_of self.new ≡ bytes_of self.old) }
         ensures cap { cap_of self.new ≡ cap_of self.old }
 
         // A failure comes at the cap, and is what counts as a fault.
-        ensures failed { IsErrOf result Refused.Failed ↔ AtCap (cap_of self.old) (length (bytes_of self.old)) }
+        ensures failed { IsErrOf result Refused.Failed
+            ↔ AtCap (cap_of self.old) (length (bytes_of self.old)) }
         ensures rose { IsErrOf result Refused.Failed
             → sink_faults_of self.new ≡ one_more (sink_faults_of self.old) }
         ensures stayed { IsErrOf result Refused.Failed

@@ -17,7 +17,11 @@ fn folder_of(
         );
         owned.push(file)?;
     }
-    Ok(MemFolder::new(owned, Vec::from_slice(alloc, fails)?))
+    Ok(MemFolder::new(
+        alloc,
+        owned,
+        Vec::from_slice(alloc, fails)?,
+    ))
 }
 
 #[test]
@@ -112,16 +116,21 @@ fn a_sink_in_memory_takes_bytes_up_to_its_cap(rt: HostRuntime) -> Result<(), Fai
     Ok(())
 }
 
+// The file stands in the folder where the test runs, and is gone before anything is compared.
 #[test]
 fn real_files_are_read(rt: HostRuntime) -> Result<(), Fail> {
     let alloc = rt.alloc();
-    fs::write(&rt, "f", "abc")?;
+    fs::write(&rt, "read_by_a_test", "abc")?;
     let mut folder = RealFolder::new(&rt);
-    assert!(rt; matches!(folder.read(&mut [0; 4]), Ok(0)));
-    let bytes = read_all(alloc, &mut folder, "f", 3)?;
-    assert_eq!(rt; bytes.as_slice(), b"abc".as_slice());
-    assert!(rt; matches!(read_all(alloc, &mut folder, "f", 2), Err(Fault::TooLong)));
-    assert!(rt; matches!(read_all(alloc, &mut folder, "g", 3), Err(Fault::Read)));
+    let begun = folder.read(&mut [0; 4]);
+    let whole = read_all(alloc, &mut folder, "read_by_a_test", 3);
+    let long = read_all(alloc, &mut folder, "read_by_a_test", 2);
+    fs::remove_file(&rt, "read_by_a_test")?;
+    let missing = read_all(alloc, &mut folder, "read_by_a_test", 3);
+    assert!(rt; matches!(begun, Ok(0)));
+    assert_eq!(rt; whole?.as_slice(), b"abc".as_slice());
+    assert!(rt; matches!(long, Err(Fault::TooLong)));
+    assert!(rt; matches!(missing, Err(Fault::Read)));
     assert!(rt; matches!(folder.read(&mut [0; 4]), Ok(0)));
     Ok(())
 }

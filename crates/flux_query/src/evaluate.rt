@@ -55,8 +55,8 @@ fn push_value(
             let atom = flux_atom::copy(alloc, atom)?;
             values.push_atom(atom)
         }
-        Query::Var(x, _) => values.append(alloc, bound(env, *x)),
-        Query::Child(x, _) => values.append(alloc, inside(env, *x)),
+        Query::Var(x, _) => values.append(bound(env, *x)),
+        Query::Child(x, _) => values.append(inside(env, *x)),
         Query::Let(x, bound, body, _) => {
             let forest = eval(alloc, bound.get(), env)?;
             push_under(alloc, body.get(), *x, forest, env, values)
@@ -76,7 +76,7 @@ fn push_value(
         }
         Query::Filter(from, test, _) => {
             let from = read(alloc, from.get(), env)?;
-            push_passing(alloc, test, from.view(env), values)
+            push_passing(test, from.view(env), values)
         }
         Query::For(x, over, body, _) => {
             let over = eval(alloc, over.get(), env)?;

@@ -11,7 +11,7 @@ ghost use Rattle.flux_calculus.specs.Query.{truth_of, content_of_one, passing};
 use flux_atom::Atom;
 use flux_calculus::Test;
 use flux_forest::{First, Forest, Head, View};
-use std::alloc::{AllocError, Global};
+use std::alloc::AllocError;
 
 // The truth value that a run is.
 pub(crate) fn truth(view: View<'_>) -> bool
@@ -59,24 +59,18 @@ pub(crate) fn push_same(
 }
 
 // Adds a tree where it passes a test.
-fn push_if_passing(
-    alloc: Global,
-    test: &Test,
-    tree: View<'_>,
-    values: &mut Forest,
-) -> Result<(), AllocError>
+fn push_if_passing(test: &Test, tree: View<'_>, values: &mut Forest) -> Result<(), AllocError>
     ensures { let v = forest_of tree.entry in
         OnOk result (values.new ≡ add values.old (if matches test.now v then v else nil)) }
 {
     if passes(test, tree) {
-        values.append(alloc, tree)?;
+        values.append(tree)?;
     }
     Ok(())
 }
 
 // Adds the trees that pass a test.
 pub(crate) fn push_passing(
-    alloc: Global,
     test: &Test,
     view: View<'_>,
     values: &mut Forest,
@@ -84,7 +78,7 @@ pub(crate) fn push_passing(
     ensures { OnOk result (values.new ≡ add values.old (passing test.now (forest_of view.entry))) }
 {
     for tree in view.trees() {
-        push_if_passing(alloc, test, tree, values)?;
+        push_if_passing(test, tree, values)?;
     }
     Ok(())
 }

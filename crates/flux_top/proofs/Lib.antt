@@ -5,6 +5,7 @@ mod Kept
 pub mod Preparing
 pub mod Answering
 pub mod Pruned
+mod Reading
 pub mod Unique
 pub mod Places
 pub mod Spelled

@@ -9,7 +9,6 @@ use Rattle.std.specs.List.{list_any}
 use Rattle.flux_atom.specs.Names.{IsLabel, IsName, IsTable, with_text}
 use Rattle.flux_trees.specs.Hedge.{Plain, nil, elem, leaf, join}
 use Rattle.flux_trees.specs.Each.{EachLabel}
-use Rattle.flux_calculus.proofs.EachLaws.{labels-join}
 use Rattle.flux_doctext.specs.Text.{NamesLabel, name_text}
 use Rattle.flux_doctext.specs.Spells.{Part, whole, Spelled, none, some, nothing, something, last, more, element, atom, Spells}
 use Rattle.flux_doctext.proofs.Alike.{Alike, alike_nil, alike_elem, alike_leaf, alike_join}
@@ -19,21 +18,6 @@ use Rattle.flux_doctext.proofs.ReadLaws.{spelled_once}
 use Rattle.flux_doctext.proofs.TextLaws.{slice_get-more, NamesLabel-found}
 use Rattle.flux_doctext.proofs.ViableLaws.{IsTable-with_text}
 use Rattle.flux_top.proofs.Interned.{with_text-grows}
-
--- the table has each label of a forest that is spelled
-labels_of : (names : List (List ℕ)) {part : Part} {bytes : List ℕ} {v : Plain} → Spelled names part bytes v → EachLabel (NamesLabel names) v
-labels_of names (none s t u is_s is_t is_u e) = tt
-labels_of names (some is) = labels_of names is
-labels_of names (nothing is) = tt
-labels_of names (something is) = labels_of names is
-labels_of names (last is) = labels_of names is
-labels_of names (more first rest v w is are e j) = subst (EachLabel (NamesLabel names)) j (labels-join (NamesLabel names) v w (labels_of names is) (labels_of names are))
-labels_of names (element s label t content u a is_s is_t is_u is_label at inside e) =
-    (subst (λ (o : Option (List ℕ)). IsSomeAnd o IsLabel) (sym at) is_label, labels_of names inside, tt)
-labels_of names (atom s literal u x is_s is_u is e) = tt
-
-pub spelled_labels : (names : List (List ℕ)) (bytes : List ℕ) (v : Plain) → Spells names bytes v → EachLabel (NamesLabel names) v
-spelled_labels names bytes v is = labels_of names is.forest
 
 -- the first table holds each text of the second
 abbrev Covers : List (List ℕ) → List (List ℕ) → Type 0

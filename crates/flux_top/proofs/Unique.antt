@@ -15,7 +15,8 @@ use Rattle.flux_doctext.specs.Text.{text, name_text, NamesLabel}
 use Rattle.flux_doctext.proofs.Alike.{Alike, alike_nil, alike_elem, alike_leaf, alike_join, alike_text}
 use Rattle.flux_doctext.proofs.TextLaws.{NamesLabel-found}
 use Rattle.flux_doctext.specs.Spells.{Spells, IsViable}
-use Rattle.flux_top.proofs.Spelled.{spelled_alike, spelled_labels}
+use Rattle.flux_doctext.proofs.LabelLaws.{spelled_over}
+use Rattle.flux_top.proofs.Spelled.{spelled_alike}
 use Rattle.flux_top.proofs.Places.{position_one, longest_one}
 use Rattle.flux_top.specs.Places.{IsPosition}
 use Rattle.flux_calculus.specs.Derives.{Derives}
@@ -119,7 +120,7 @@ result_one names others path other script document v v' w w' is are spelled othe
     let paths = path_alike names others path other is.each are.each (steps_one script _ _ is are) in
     let left : w ≡ pruned path v = derives_one derived (pruned_derives [] standard [] path (steps_some script names path is) v) in
     let right : w' ≡ pruned other v' = derives_one other_derived (pruned_derives [] standard [] other (steps_some script others other are) v') in
-    let results = pruned_alike names others spelled.table other_spelled.table paths forests (spelled_labels names document v spelled) (spelled_labels others document v' other_spelled) in
+    let results = pruned_alike names others spelled.table other_spelled.table paths forests (spelled_over names document v spelled).labels (spelled_over others document v' other_spelled).labels in
     ap (text names) left ∙ alike_text results ∙ sym (ap (text others) right)
 
 module _ (held : Held) (words : List (List ℕ)) where

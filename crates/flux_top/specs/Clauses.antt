@@ -1,10 +1,15 @@
 -- What the top call promises of its status, its output and its line.
-use Rattle.std.specs.Prelude.{◌≡◌, ◌⊎◌, ◌<◌, ℕ, List, [], length, take, Option, IsSome, IfSome}
+use Rattle.std.specs.Prelude.{◌≡◌, ◌⊎◌, ◌<◌, ℕ, List, [], ◌∷◌, ◌++◌, length, map, take, Option, IsSome, IfSome}
 use Rattle.std.specs.Io.KnownBytes.{append_known}
 use Rattle.flux_io.specs.Outside.{Held}
+use Rattle.flux_trees.specs.Hedge.{Plain}
+use Rattle.flux_doctext.specs.Text.{name_text}
+use Rattle.flux_doctext.specs.Spells.{Spells}
+use Rattle.flux_calculus.specs.Derives.{Derives}
 use Rattle.flux_top.specs.Words.{form}
+use Rattle.flux_top.specs.Paths.{standard, delete_on}
 use Rattle.flux_top.specs.Lines.{line_of}
-use Rattle.flux_top.specs.Answer.{Answer, Lacking}
+use Rattle.flux_top.specs.Answer.{NamesDocument, AsksDeletion, Answer, Lacking}
 use Rattle.flux_top.specs.declared.position.Position.{Position}
 use Rattle.flux_top.specs.declared.status.Status.{Status}
 use Rattle.flux_top.specs.declared.status.Status.TheVariants.{Done, Script, Usage, DocText, ReadFault, WriteFault, Memory}
@@ -40,6 +45,27 @@ AppendsPart old new bytes =
 abbrev pub IsOutput : Option Held → List (List ℕ) → List ℕ → Type 0
 IsOutput holds words output = IfSome holds (λ held.
     (line : List ℕ) × Answer held words Done output line)
+
+-- the output is a text and a newline, and the text spells the forest that the rules derive from the
+-- path that the script deletes, on the forest that the document spells
+pub record IsTextOfResult (held : Held) (words : List (List ℕ)) (output : List ℕ) : Type 0 where
+  pub names : List (List ℕ)
+  pub path : List ℕ
+  pub document : List ℕ
+  pub before : Plain
+  pub after : Plain
+  pub text : List ℕ
+  pub asked : AsksDeletion held words (map (name_text names) path)
+  pub named : NamesDocument held words document
+  pub read : Spells names document before
+  pub derived : Derives [] standard [] before (delete_on path) after
+  pub output_is : output ≡ text ++ 10 ∷ []
+  pub spells : Spells names text after
+
+-- such bytes were appended to the output
+abbrev pub ReadsBack : Option Held → List (List ℕ) → (old new : Option (List ℕ)) → Type 0
+ReadsBack holds words old new = IfSome holds (λ held.
+    (output : List ℕ) × IsTextOfResult held words output × (new ≡ append_known old output))
 
 -- what a run with that status did to the output
 abbrev pub Writes : (List ℕ → Type 0) → (old new : Option (List ℕ)) → Status → Type 0

@@ -32,7 +32,7 @@ pub fn deleted(alloc: Global, view: View<'_>, path: &[Name]) -> Result<Forest, A
             }
             First::Elem(name) => {
                 if name != path[outer.len()] {
-                    rest = keep_first(alloc, rest, &mut result)?;
+                    rest = keep_first(rest, &mut result)?;
                 } else {
                     let (element, others) = rest.split();
                     if outer.len() + 1 == path.len() {
@@ -44,20 +44,20 @@ pub fn deleted(alloc: Global, view: View<'_>, path: &[Name]) -> Result<Forest, A
                     }
                 }
             }
-            First::Atom(_) => rest = keep_first(alloc, rest, &mut result)?,
+            First::Atom(_) => rest = keep_first(rest, &mut result)?,
         }
     }
 }
 
 // Copies the first tree of the run, and gives those behind it.
-fn keep_first<'v>(alloc: Global, run: View<'v>, kept: &mut Forest) -> Result<View<'v>, AllocError>
+fn keep_first<'v>(run: View<'v>, kept: &mut Forest) -> Result<View<'v>, AllocError>
     requires { forest_of run ≢ nil }
     ensures others { IfOk result (λ rest. forest_of rest ≡ others (forest_of run.entry)) }
     ensures ok { OnOk result (kept.new ≡ add kept.old (first (forest_of run.entry))) }
     ensures err { OnErr result (kept.new ≡ kept.old) }
 {
     let (tree, others) = run.split();
-    kept.append(alloc, tree)?;
+    kept.append(tree)?;
     Ok(others)
 }
 

@@ -12,7 +12,7 @@ ghost use Rattle.flux_top.specs.Script.{DeletesPath};
 ghost use Rattle.flux_doctext.specs.Spells.{Spells};
 ghost use Rattle.flux_top.specs.Words.{texts, form};
 ghost use Rattle.flux_top.specs.Answer.{Lacking, IsNoForest};
-ghost use Rattle.flux_top.specs.Clauses.{IsStatus, IsComplete, IsOutput, Writes, Shows};
+ghost use Rattle.flux_top.specs.Clauses.{IsStatus, IsComplete, IsOutput, Writes, ReadsBack, Shows};
 ghost use Rattle.flux_top.specs.Prepare.{IsFileRefusal, IsEarlyRefusal};
 
 use crate::Status;
@@ -165,6 +165,9 @@ pub fn flux<F: Folder, W: Sink, X: Sink>(
     // What is written.
     ensures output { Writes (IsOutput (F.holds folder.old) (texts words.now.items))
         (W.written out.old) (W.written out.new) result }
+    ensures reads_back { result ≡ Status.Done →
+        ReadsBack (F.holds folder.old) (texts words.now.items)
+            (W.written out.old) (W.written out.new) }
     ensures line { Shows (F.holds folder.old) (texts words.now.items)
         (X.written err.old) (X.written err.new)
         (Rose (X.faults err.old) (X.faults err.new)) result }

@@ -80,8 +80,8 @@ fn copied(alloc: Global, view: View<'_>) -> Result<Forest, AllocError>
     ensures { IfOk result (λ forest. depth forest ≡ 0) }
 {
     let mut forest = Forest::new(alloc);
-    forest.append(alloc, inside(view))?;
-    forest.append(alloc, view)?;
+    forest.append(inside(view))?;
+    forest.append(view)?;
     Ok(forest)
 }
 

@@ -28,3 +28,6 @@ returns-in-Err-clause-missing g c =
 pub returns-in-Err-clause-complete : goal.returns-in-Err-clause-complete
 returns-in-Err-clause-complete g c =
     ended_complete (texts c.args.words.now.items) _ _ c.in-Err.refusal _ (kept _ _ _ c.refuse.ensures.status) _ (early g c)
+
+pub returns-in-Ok-clause-reads_back : goal.returns-in-Ok-clause-reads_back
+returns-in-Ok-clause-reads_back g c = ?

@@ -11,7 +11,7 @@ use Rattle.flux_top.specs.Paths.{standard, delete_on}
 use Rattle.flux_top.specs.Words.{texts}
 use Rattle.flux_top.specs.Script.{DeletesPath}
 use Rattle.flux_top.proofs.Preparing.{rose_later, refusal_later, early_script, early_path, early_document, early_forest, asks, prepared, steps_stay}
-use Rattle.flux_top.proofs.Spelled.{spelled_labels}
+use Rattle.flux_doctext.proofs.LabelLaws.{spelled_over}
 use Rattle.flux_top.proofs.run.prepare.Goals as goal
 use Rattle.flux_top.proofs.run.prepare.Goals.{After-as_slice, In_ok-path, In_ok-document, In_ok-forest}
 
@@ -56,7 +56,7 @@ returns-in_err-forest-clause-refused g c =
 pub result_text-requires-clause-known : goal.result_text-requires-clause-known
 result_text-requires-clause-known g c =
     let read = c.in_ok-forest.ensures.forest in
-    subst (λ (d : Draft (Unit {0})). EachLabel (λ a. a < length c.read_forest.new.names) (outer d)) (sym read.1) (labels_within c.read_forest.new.names read.0 (spelled_labels c.read_forest.new.names c.in_ok-document.document.items read.0 read.2))
+    subst (λ (d : Draft (Unit {0})). EachLabel (λ a. a < length c.read_forest.new.names) (outer d)) (sym read.1) (labels_within c.read_forest.new.names read.0 (spelled_over c.read_forest.new.names c.in_ok-document.document.items read.0 read.2).labels)
 
 pub returns-in-Ok-clause-output : goal.returns-in-Ok-clause-output
 returns-in-Ok-clause-output g c =
