@@ -105,11 +105,17 @@ fn label(rt: &impl Abort, names: &mut Names, text: &str) -> Result<Name, Fail> {
 }
 
 #[tactic(auto, using(flux_types::proofs::KeptLaws::counts))]
-fn set(rt: &impl Abort, draft: &mut Draft, index: u32, body: Ty) -> Result<(), AllocError>
-    requires { length draft.old ≡ 2 }
-    ensures { length draft.new ≡ 2 }
+fn set(
+    rt: &impl Abort,
+    draft: &mut Draft,
+    count: u32,
+    index: u32,
+    body: Ty,
+) -> Result<(), AllocError>
+    requires { length draft.old ≡ count }
+    ensures { length draft.new ≡ count }
 {
-    assert!(rt; index < 2 && is_known(&body, 2));
+    assert!(rt; index < count && is_known(&body, count));
     assert!(rt; size(&body) <= 65_536 && height(&body) <= 500);
     draft.define(index, body)
 }
@@ -137,8 +143,14 @@ fn make_scene(rt: &impl Abort, alloc: Global) -> Result<Scene, Fail> {
     let a = label(rt, &mut names, "a")?;
     let x = label(rt, &mut names, "x")?;
     let mut draft = two_names(alloc, a, x)?;
-    set(rt, &mut draft, 0, ty(alloc, &[Element(a), Star, Named(0)])?)?;
-    set(rt, &mut draft, 1, ty(alloc, &[Element(x), Named(1)])?)?;
+    set(
+        rt,
+        &mut draft,
+        2,
+        0,
+        ty(alloc, &[Element(a), Star, Named(0)])?,
+    )?;
+    set(rt, &mut draft, 2, 1, ty(alloc, &[Element(x), Named(1)])?)?;
     let defs = draft.close()?;
     Ok(Scene { a, x, defs })
 }
@@ -378,4 +390,71 @@ fn starts_stay(rt: HostRuntime) -> Result<(), Fail> {
     assert!(rt; !auto.ends(state) && matches!(auto.edges(state), [Edge::Elem(_, _, _)]));
     assert!(rt; auto.state(other) < auto.states());
     Ok(())
+}
+
+// More names than calls that nest have room for.
+const CHAIN: u32 = 20_000;
+
+#[tactic(auto, using(flux_types::proofs::KeptLaws::counts))]
+fn declare_many(
+    rt: &impl Abort,
+    alloc: Global,
+    names: &mut Names,
+    count: u32,
+) -> Result<Draft, Fail>
+    ensures { IfOk result (λ draft. length draft ≡ count) }
+{
+    let mut draft = Draft::new(alloc);
+    for index in 0..count {
+        let text = format!(in alloc; "x{index}")?;
+        assert!(rt; is_name(&text) && names.len() < 1_000_000);
+        let name = names.intern(&text)?;
+        draft.declare(name)?;
+    }
+    Ok(draft)
+}
+
+// A name, or its choice with an empty element.
+fn link(alloc: Global, index: u32, beside: Option<Name>) -> Result<Ty, AllocError> {
+    match beside {
+        None => Ok(Ty::Named(index)),
+        Some(label) => ty(alloc, &[Alt, Named(index), Element(label), Nothing]),
+    }
+}
+
+// The definitions 0 = 1, 1 = 2 and so on, or 0 = 1|b[], 1 = 2|b[] and so on, to a last one, a[].
+fn chain(
+    rt: &impl Abort,
+    alloc: Global,
+    names: &mut Names,
+    last: Name,
+    beside: Option<Name>,
+) -> Result<Defs, Fail> {
+    let mut draft = declare_many(rt, alloc, names, CHAIN)?;
+    for index in 1..CHAIN {
+        set(
+            rt,
+            &mut draft,
+            CHAIN,
+            index - 1,
+            link(alloc, index, beside)?,
+        )?;
+    }
+    let body = ty(alloc, &[Element(last), Nothing])?;
+    set(rt, &mut draft, CHAIN, CHAIN - 1, body)?;
+    Ok(draft.close()?)
+}
+
+#[test]
+fn chains_of_names(rt: HostRuntime) -> Result<(), Fail> {
+    let alloc = rt.alloc();
+    let mut names = Names::new(alloc);
+    let a = label(&rt, &mut names, "a")?;
+    let b = label(&rt, &mut names, "b")?;
+    let plain = chain(&rt, alloc, &mut names, a, None)?;
+    assert_member(&rt, alloc, &plain, &[Named(0)], &[Begin(a), End], true)?;
+    assert_member(&rt, alloc, &plain, &[Named(0)], &[Begin(b), End], false)?;
+    let choices = chain(&rt, alloc, &mut names, a, Some(b))?;
+    assert_member(&rt, alloc, &choices, &[Named(0)], &[Begin(a), End], true)?;
+    assert_member(&rt, alloc, &choices, &[Named(0)], &[Begin(b), End], true)
 }
