@@ -5,7 +5,7 @@ use Rattle.std.proofs.Math.ListN.{set}
 use Rattle.flux_schema.specs.Ty.{Ty, empty, atom, element, seq, alt, star, named}
 use Rattle.flux_schema.specs.Definitions.{Definitions, body_of, StandsIn, Leads, Reaches, at_once, through, IsGood, FallsAlong}
 use Rattle.flux_schema.specs.Marks.{IsMarked, unmarked}
-use Rattle.flux_schema.proofs.MarkLaws.{le_or, marked-set, unmarked-set}
+use Rattle.flux_schema.proofs.MarkLaws.{le_or, marked-set, unmarked-set, none_marked}
 
 -- ---- steps
 
@@ -48,6 +48,15 @@ most-above f (alt t u) y (inl h) = omega (arith, most-above f t y h)
 most-above f (alt t u) y (inr h) = omega (arith, most-above f u y h)
 most-above f (star t) y h = most-above f t y h
 most-above f (named z) y h = subst (λ w. f w < suc (f z)) (sym h) (omega arith)
+
+pub most-below : (f : ℕ → ℕ) (n : ℕ) (t : Ty) → ((y : ℕ) → StandsIn y t → f y < n) → most f t ≤ n
+most-below f n empty h = omega arith
+most-below f n (atom k) h = omega arith
+most-below f n (element m t) h = omega arith
+most-below f n (seq t u) h = omega (arith, most-below f n t (λ y s. h y (inl s)), most-below f n u (λ y s. h y (inr s)))
+most-below f n (alt t u) h = omega (arith, most-below f n t (λ y s. h y (inl s)), most-below f n u (λ y s. h y (inr s)))
+most-below f n (star t) h = most-below f n t h
+most-below f n (named y) h = h y refl
 
 abbrev Rises : (ℕ → ℕ) → (ℕ → ℕ) → Ty → Type 0
 Rises f g t = (y : ℕ) × StandsIn y t × (f y < g y)
@@ -144,11 +153,6 @@ module _ (bodies : ℕ → Option Ty) (n : ℕ) (within : (x : ℕ) (t : Ty) →
   chain_bound : (k x : ℕ) → Chain bodies k x → Bounded k x
   chain_bound zero x c marks len b = inl (omega arith)
   chain_bound (suc k) x (y, l, c) marks len b = chain_step k x y marks len b l (chain_bound k y c) (get_or marks x false) refl
-
-none_marked : (n y : ℕ) → IsMarked (replicate n false) y → ⊥
-none_marked zero y h = cc
-none_marked (suc n) zero h = cc
-none_marked (suc n) (suc y) h = none_marked n y h
 
 unmarked-replicate : (n : ℕ) → unmarked (replicate n false) ≡ n
 unmarked-replicate zero = refl

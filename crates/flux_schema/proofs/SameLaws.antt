@@ -4,7 +4,7 @@ use Rattle.std.proofs.lemmas.Bool.{eqb-true}
 use Rattle.flux_atom.specs.declared.atom.AtomKind.{AtomKind}
 use Rattle.flux_atom.specs.declared.atom.AtomKind.TheVariants as kind
 use Rattle.flux_schema.specs.Ty.{Ty, empty, atom, element, seq, alt, star, named}
-use Rattle.flux_schema.specs.Tidy.{same_kind, same}
+use Rattle.flux_schema.specs.Same.{same_kind, same}
 
 pub both_true : (a b : Bool) → a && b ≡ true → (a ≡ true) × (b ≡ true)
 both_true true true e = (refl, refl)

@@ -13,17 +13,21 @@ pub data Member (defs : Definitions) : Plain → Ty → Type 0 where
   -- one atom of the kind
   in_atom : (x : Atom) {k : AtomKind} → kind_of x ≡ k → Member defs (leaf tt x nil) (atom k)
   -- one element with the label, whose content is a member
-  in_element : (n : ℕ) {v : Plain} {t : Ty} → Member defs v t → Member defs (elem tt n v nil) (element n t)
+  in_element : (n : ℕ) {v : Plain} {t : Ty} →
+      Member defs v t → Member defs (elem tt n v nil) (element n t)
   -- a member of the first and then one of the second
-  in_seq : {z : Plain} (v w : Plain) {t u : Ty} → join v w ≡ z → Member defs v t → Member defs w u → Member defs z (seq t u)
+  in_seq : {z : Plain} (v w : Plain) {t u : Ty} →
+      join v w ≡ z → Member defs v t → Member defs w u → Member defs z (seq t u)
   -- a member of either
   in_left : {v : Plain} {t : Ty} (u : Ty) → Member defs v t → Member defs v (alt t u)
   in_right : {v : Plain} (t : Ty) {u : Ty} → Member defs v u → Member defs v (alt t u)
   -- members joined: none, or one and then others
   in_done : (t : Ty) → Member defs nil (star t)
-  in_more : {z : Plain} (v w : Plain) {t : Ty} → join v w ≡ z → Member defs v t → Member defs w (star t) → Member defs z (star t)
+  in_more : {z : Plain} (v w : Plain) {t : Ty} →
+      join v w ≡ z → Member defs v t → Member defs w (star t) → Member defs z (star t)
   -- a member of the body
-  in_name : {v : Plain} (x : ℕ) {t : Ty} → body_of defs x ≡ Some t → Member defs v t → Member defs v (named x)
+  in_name : {v : Plain} (x : ℕ) {t : Ty} →
+      body_of defs x ≡ Some t → Member defs v t → Member defs v (named x)
 
 -- each member of the first is a member of the second
 abbrev pub Included : Definitions → Ty → Ty → Type 0

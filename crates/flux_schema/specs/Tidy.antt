@@ -1,24 +1,7 @@
 -- Types with what adds nothing taken away.
-use Rattle.std.specs.Prelude.{Bool, true, false, ◌&&◌, ◌==◌, if◌then◌else◌}
-use Rattle.flux_atom.specs.declared.atom.AtomKind.{AtomKind}
-use Rattle.flux_atom.specs.declared.atom.AtomKind.TheVariants as kind
+use Rattle.std.specs.Prelude.{if◌then◌else◌}
 use Rattle.flux_schema.specs.Ty.{Ty, empty, atom, element, seq, alt, star, named}
-
-abbrev pub same_kind : AtomKind → AtomKind → Bool
-same_kind kind.Bool kind.Bool = true
-same_kind kind.Text kind.Text = true
-same_kind _ _ = false
-
--- whether two types are the same tree
-abbrev pub same : Ty → Ty → Bool
-same empty empty = true
-same (atom k) (atom l) = same_kind k l
-same (element n t) (element m u) = (n == m) && same t u
-same (seq t u) (seq v w) = same t v && same u w
-same (alt t u) (alt v w) = same t v && same u w
-same (star t) (star u) = same t u
-same (named x) (named y) = x == y
-same _ _ = false
+pub use Rattle.flux_schema.specs.Same.{same_kind, same}
 
 -- `(),t` and `t,()` are t
 abbrev pub tidy_seq : Ty → Ty → Ty

@@ -6,6 +6,7 @@ use Rattle.flux_atom.specs.declared.atom.AtomKind.TheVariants as kind
 use Rattle.flux_schema.specs.Ty.{Ty, empty, atom, element, seq, alt, star, named}
 use Rattle.flux_schema.specs.Definitions.{Definitions}
 pub use Rattle.flux_atom.specs.Names.{name_text}
+pub use Rattle.flux_schema.specs.Same.{is_empty}
 use Rattle.flux_atom.specs.Reserved.{is_reserved}
 
 -- between quotes where it is a reserved word
@@ -14,7 +15,8 @@ quoted text = if is_reserved text then codes "'" ++ text ++ codes "'" else text
 
 -- the name of a definition
 abbrev pub definition_text : List (List ℕ) → Definitions → ℕ → List ℕ
-definition_text names defs x = unwrap_or (option_map (λ d. name_text names d.name) (slice_get defs x)) []
+definition_text names defs x =
+    unwrap_or (option_map (λ d. name_text names d.name) (slice_get defs x)) []
 
 abbrev pub kind_text : AtomKind → List ℕ
 kind_text kind.Bool = codes "bool"
@@ -25,18 +27,23 @@ in_parentheses text = codes "(" ++ text ++ codes ")"
 
 -- a type that has parentheses inside a sequence: a choice
 abbrev pub is_choice : Ty → Bool
+is_choice empty = false
+is_choice (atom k) = false
+is_choice (element n t) = false
+is_choice (seq t u) = false
 is_choice (alt t u) = true
-is_choice _ = false
+is_choice (star t) = false
+is_choice (named x) = false
 
 -- a type that has parentheses inside a star: a choice or a sequence
 abbrev pub is_list : Ty → Bool
+is_list empty = false
+is_list (atom k) = false
+is_list (element n t) = false
 is_list (seq t u) = true
 is_list (alt t u) = true
-is_list _ = false
-
-abbrev pub is_empty : Ty → Bool
-is_empty empty = true
-is_empty _ = false
+is_list (star t) = false
+is_list (named x) = false
 
 -- with parentheses where they are wanted
 abbrev pub enclosed : Bool → List ℕ → List ℕ
@@ -46,8 +53,12 @@ enclosed wanted text = if wanted then in_parentheses text else text
 abbrev pub text_of : List (List ℕ) → Definitions → Ty → List ℕ
 text_of names defs empty = codes "()"
 text_of names defs (atom k) = kind_text k
-text_of names defs (element n t) = quoted (name_text names n) ++ codes "[" ++ (if is_empty t then [] else text_of names defs t) ++ codes "]"
-text_of names defs (seq t u) = enclosed (is_choice t) (text_of names defs t) ++ codes "," ++ enclosed (is_choice u) (text_of names defs u)
+text_of names defs (element n t) =
+    quoted (name_text names n) ++ codes "["
+        ++ (if is_empty t then [] else text_of names defs t) ++ codes "]"
+text_of names defs (seq t u) =
+    enclosed (is_choice t) (text_of names defs t) ++ codes ","
+        ++ enclosed (is_choice u) (text_of names defs u)
 text_of names defs (alt t u) = text_of names defs t ++ codes "|" ++ text_of names defs u
 text_of names defs (star t) = enclosed (is_list t) (text_of names defs t) ++ codes "*"
 text_of names defs (named x) = definition_text names defs x

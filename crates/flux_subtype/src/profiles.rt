@@ -47,7 +47,7 @@ impl<'d> Decider for Profiles<'d> {
     ghost known = { λ _. [] };
 
     fn defs(&self) -> &Defs {
-        self.defs
+        self.defs.as_kept()
     }
 
     fn included(&mut self, alloc: Global, left: &Ty, right: &Ty) -> Result<Verdict, AllocError> {

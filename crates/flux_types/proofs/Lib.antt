@@ -1,6 +1,6 @@
 pub mod Variants
 pub mod KeptLaws
-pub mod PlacesLaws
+pub mod IndexLaws
 pub mod SearchLaws
 pub mod DefsLaws
 pub mod TableLaws

@@ -4,7 +4,7 @@ use Rattle.std.proofs.Math.ListN.{set}
 use Rattle.flux_schema.specs.Ty.{Ty, empty, atom, element, seq, alt, star, named, NamesBelow}
 use Rattle.flux_schema.specs.Definitions.{StandsIn, Leads, Reaches, at_once, through}
 use Rattle.flux_schema.specs.Marks.{IsMarked}
-use Rattle.flux_schema.proofs.MarkLaws.{marked-set, set-marked, set-kept, unmarked-set}
+use Rattle.flux_schema.proofs.MarkLaws.{marked-set, set-marked, set-kept, unmarked-set, none_marked}
 use Rattle.flux_schema.proofs.Ranks.{reaches_on}
 use Rattle.flux_types.specs.Search.{IsAmong, Visits}
 
@@ -101,11 +101,6 @@ some_is x y e = cc
 -- the body that a name leads by is its body
 leads_by : (bodies : ℕ → Option Ty) (x y : ℕ) (t : Ty) → bodies x ≡ Some t → Leads bodies x y → StandsIn y t
 leads_by bodies x y t e (u, f, s) = subst (StandsIn y) (some_is u t (sym f ∙ e)) s
-
-none_marked : (n y : ℕ) → IsMarked (replicate n false) y → ⊥
-none_marked zero y h = cc
-none_marked (suc n) zero h = cc
-none_marked (suc n) (suc y) h = none_marked n y h
 
 pub searches_init : (bodies : ℕ → Option Ty) (n x : ℕ) (t : Ty) (start marks : List Bool) (none waiting : List ℕ) → bodies x ≡ Some t → NamesBelow n t → start ≡ replicate n false → none ≡ [] → length marks ≡ n → Visits t start marks none waiting → Searches bodies n x marks waiting
 searches_init bodies n x t start marks none waiting e b is_start is_none len v =

@@ -1,6 +1,6 @@
 pub mod Read
 pub mod Kept
 pub mod Faults
-pub mod Places
+pub mod Indices
 pub mod Search
 pub mod Verdicts

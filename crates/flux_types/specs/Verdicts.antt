@@ -3,7 +3,7 @@ use Rattle.std.specs.Prelude.{◌≡◌}
 use Rattle.flux_trees.specs.Hedge.{Plain}
 use Rattle.flux_trees.specs.Draft.{Draft, done}
 use Rattle.flux_schema.specs.Ty.{Ty}
-use Rattle.flux_schema.specs.Definitions.{Definitions}
+use Rattle.flux_schema.specs.Definitions.{Definitions, IsKnown}
 use Rattle.flux_schema.specs.Member.{Member, Included}
 use Rattle.flux_types.specs.declared.decider.Verdict.{Verdict}
 use Rattle.flux_types.specs.declared.decider.Verdict.TheVariants.{Yes, No}
@@ -11,6 +11,10 @@ use Rattle.flux_types.specs.declared.decider.Verdict.TheVariants.{Yes, No}
 -- a type and one that it may be included in
 abbrev pub TypePair : Type 0
 TypePair = Ty × Ty
+
+-- the names in both are those of definitions
+abbrev pub IsKnownPair : Definitions → TypePair → Type 0
+IsKnownPair defs p = IsKnown defs p.0 × IsKnown defs p.1
 
 -- a whole forest that is a member of the first type and not of the second
 abbrev pub IsEvidence : Definitions → Ty → Ty → Draft (Unit {0}) → Type 0

@@ -1,9 +1,10 @@
 // What decides whether a type is included in another.
-ghost use Rattle.std.specs.Prelude.{◌≡◌, ◌==◌, Bool, List, IsTrue, Contains, Ok, IfOk, IsOkAnd};
+ghost use Rattle.std.specs.Prelude.{◌≡◌, ◌==◌, Bool, List, IsTrue, All, Contains, Ok, IfOk, IsOkAnd};
 ghost use Rattle.flux_schema.specs.Ty.{IsWithinLimits};
 ghost use Rattle.flux_schema.specs.Definitions.{Definitions, IsKnown};
 ghost use Rattle.flux_types.specs.Read.{ty_of};
-ghost use Rattle.flux_types.specs.Verdicts.{TypePair, IsVerdict, IsYes};
+ghost use Rattle.flux_types.specs.Kept.{AreKept};
+ghost use Rattle.flux_types.specs.Verdicts.{TypePair, IsKnownPair, IsVerdict, IsYes};
 
 use crate::{Defs, Ty};
 use flux_forest::Forest;
@@ -31,18 +32,29 @@ pub trait Decider {
     /// The pairs of which it remembers that the first is included in the second.
     ghost known: { Self → List TypePair };
 
+    /// The definitions, which are good. What it remembers is of types that name these alone.
     fn defs(&self) -> &Defs
-        ensures { result.now ≡ definitions self.now };
+        ensures value { result.now ≡ definitions self.now }
+        ensures good { AreKept (definitions self.now) }
+        ensures known { All (IsKnownPair (definitions self.now)) (known self.now) };
 
-    /// Whether each member of the left type is a member of the right one.
+    /// Whether each member of the left type is a member of the right one. A forest that is shown has
+    /// labels of the left type alone (`members_have_labels_of_their_types`).
     fn included(&mut self, alloc: Global, left: &Ty, right: &Ty) -> Result<Verdict, AllocError>
         requires left_known { IsKnown (definitions self.old) (ty_of left.now) }
         requires right_known { IsKnown (definitions self.old) (ty_of right.now) }
         requires left_limits { IsWithinLimits (ty_of left.now) }
         requires right_limits { IsWithinLimits (ty_of right.now) }
-        ensures verdict { IfOk result (IsVerdict (definitions self.old) (ty_of left.now) (ty_of right.now)) }
-        ensures remembered { Contains (known self.old) (ty_of left.now, ty_of right.now) → IsOkAnd result IsYes }
-        ensures kept { IsTrue (keeps self.old) → IsOkAnd result IsYes → Contains (known self.new) (ty_of left.now, ty_of right.now) }
+        ensures verdict {
+            IfOk result (IsVerdict (definitions self.old) (ty_of left.now) (ty_of right.now))
+        }
+        ensures remembered {
+            Contains (known self.old) (ty_of left.now, ty_of right.now) → IsOkAnd result IsYes
+        }
+        ensures kept {
+            IsTrue (keeps self.old) → IsOkAnd result IsYes →
+                Contains (known self.new) (ty_of left.now, ty_of right.now)
+        }
         ensures still { (p : TypePair) → Contains (known self.old) p → Contains (known self.new) p }
         ensures same_definitions { definitions self.new ≡ definitions self.old }
         ensures same_keeps { keeps self.new ≡ keeps self.old };

@@ -3,6 +3,7 @@ ghost use Rattle.std.specs.Prelude.{◌≡◌, ◌<◌, ℕ, Some, length, slice
 ghost use Rattle.std.specs.Option.{option_map};
 ghost use Rattle.flux_schema.specs.Definitions.{body_of, IsGood};
 ghost use Rattle.flux_schema.specs.Fits.{MembershipComputes};
+ghost use Rattle.flux_schema.specs.Labels.{MembersHaveLabelsOfTheirTypes};
 ghost use Rattle.flux_schema.specs.Single.{Single, IsNotSingle};
 ghost use Rattle.flux_types.specs.Read.{ty_of};
 ghost use Rattle.flux_types.specs.Kept.{definitions_of, AreKept, IsKnownAtTop};
@@ -42,7 +43,7 @@ impl Model for Defs {
 }
 
 impl Defs {
-    /// The same definitions once more.
+    /// The same definitions once more. It recurses by the heights of their bodies.
     pub fn copy(&self, alloc: Global) -> Result<Defs, AllocError>
         ensures { IfOk result (λ copied. copied ≡ self.now) }
     {
@@ -63,6 +64,15 @@ impl Defs {
         ensures kept { AreKept self.now }
     {
         self.kept.len() as u32
+    }
+
+    /// These definitions, with what they keep: for one who gets them from a caller.
+    pub fn as_kept(&self) -> &Defs
+        ensures same { result.now ≡ self.now }
+        ensures kept { AreKept self.now }
+    {
+        let _kept = &self.kept;
+        self
     }
 
     pub(crate) fn name(&self, index: u32) -> Name
@@ -94,7 +104,7 @@ fn copies(alloc: Global, kept: &[Kept]) -> Result<Vec<Kept>, AllocError>
     Ok(copied)
 }
 
-/// The atom or the element that a type of one tree stands for.
+/// The atom or the element that a type of one tree stands for. Names are followed in a loop.
 pub fn single<'t>(defs: &'t Defs, ty: &'t Ty) -> Option<&'t Ty>
     requires { IsKnownAtTop defs.now (ty_of ty.now) }
     ensures found { IfSome result (λ one. Single defs.now (ty_of ty.now) (ty_of one.now)) }
@@ -116,4 +126,12 @@ pub fn membership_computes(defs: &Defs)
     ensures { MembershipComputes defs.now }
 {
     let _kept = &defs.kept;
+}
+
+/// Each label of a member of a type is a label of the type, or of a body that it reaches through
+/// names at any level. So a forest that is shown as a member has no label that its type hasn't. It
+/// does nothing: its contract is the law.
+pub fn members_have_labels_of_their_types()
+    ensures { MembersHaveLabelsOfTheirTypes }
+{
 }

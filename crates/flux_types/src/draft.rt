@@ -8,7 +8,7 @@ ghost use Rattle.flux_types.specs.Faults.{DeclareFault, CloseFault};
 
 use crate::Ty;
 use crate::defs::{Defs, Kept};
-use crate::places::{index_of, make_room, set_index};
+use crate::indices::{index_of, make_room, set_index};
 use crate::search::first_unguarded;
 use flux_atom::Name;
 use std::alloc::{AllocError, Global};
@@ -52,7 +52,7 @@ struct Entry {
 pub struct Draft {
     entries: Vec<Entry>,
     // the index of each name, at its number
-    places: Vec<Option<u32>>,
+    indices: Vec<Option<u32>>,
 }
 
 impl Model for Draft {
@@ -65,12 +65,12 @@ impl Model for Draft {
 
     ghost use Rattle.flux_schema.specs.Definitions.{declared_names};
     ghost use Rattle.flux_types.specs.Kept.{declarations_of, IsDraft};
-    ghost use Rattle.flux_types.specs.Places.{Locates};
+    ghost use Rattle.flux_types.specs.Indices.{Locates};
 
     ghost view = { λ d. declarations_of d.entries.items };
 
     ghost invariant = { λ d. IsDraft (declarations_of d.entries.items)
-        × Locates d.places.items (declared_names (declarations_of d.entries.items)) };
+        × Locates d.indices.items (declared_names (declarations_of d.entries.items)) };
 }
 
 impl Draft {
@@ -80,7 +80,7 @@ impl Draft {
     {
         Draft {
             entries: Vec::new(alloc),
-            places: Vec::new(alloc),
+            indices: Vec::new(alloc),
         }
     }
 
@@ -90,25 +90,29 @@ impl Draft {
 
         ensures index { IfOk result (λ index. index ≡ length self.old) }
         ensures ok { OnOk result (self.new ≡ self.old ++ record { name = name; body = None } ∷ []) }
-        ensures fresh { OnOk result ((x : ℕ) → ¬ (slice_get (declared_names self.old) x ≡ Some name)) }
+        ensures fresh {
+            OnOk result ((x : ℕ) → ¬ (slice_get (declared_names self.old) x ≡ Some name))
+        }
         ensures fault { IfErr result (DeclareFault self.old name) }
         ensures err { OnErr result (self.new ≡ self.old) }
     {
-        if let Some(index) = index_of(&self.places, name) {
+        if let Some(index) = index_of(&self.indices, name) {
             return Err(DefFault::Duplicate { index });
         }
-        make_room(&mut self.places, name)?;
+        make_room(&mut self.indices, name)?;
         let index = self.entries.len() as u32;
         push_name(&mut self.entries, name)?;
-        set_index(&mut self.places, name, index);
+        set_index(&mut self.indices, name, index);
         Ok(index)
     }
 
     /// The index of a name.
     pub fn lookup(&self, name: Name) -> Option<u32>
-        ensures { (x : ℕ) → (result ≡ Some x) ↔ (slice_get (declared_names self.now) x ≡ Some name) }
+        ensures {
+            (x : ℕ) → (result ≡ Some x) ↔ (slice_get (declared_names self.now) x ≡ Some name)
+        }
     {
-        index_of(&self.places, name)
+        index_of(&self.indices, name)
     }
 
     /// Gives a name its body, in place of one that it has. The body is dropped where this fails.
@@ -143,7 +147,10 @@ impl Draft {
 }
 
 fn push_name(entries: &mut Vec<Entry>, name: Name) -> Result<(), AllocError>
-    ensures ok { OnOk result (declarations_of entries.new.items ≡ declarations_of entries.old.items ++ record { name = name; body = None } ∷ []) }
+    ensures ok {
+        OnOk result (declarations_of entries.new.items ≡
+            declarations_of entries.old.items ++ record { name = name; body = None } ∷ [])
+    }
     ensures err { OnErr result (entries.new.items ≡ entries.old.items) }
 {
     entries.push(Entry { name, body: None })?;
@@ -152,7 +159,9 @@ fn push_name(entries: &mut Vec<Entry>, name: Name) -> Result<(), AllocError>
 
 fn put_body(entries: &mut [Entry], index: u32, body: Ty)
     requires { index < length entries.old }
-    ensures { declarations_of entries.new ≡ with_body (declarations_of entries.old) index (ty_of body) }
+    ensures {
+        declarations_of entries.new ≡ with_body (declarations_of entries.old) index (ty_of body)
+    }
 {
     entries[index as usize].body = Some(body);
 }
@@ -172,7 +181,10 @@ fn first_unknown(entries: &[Entry]) -> Option<u32>
 
 fn with_bodies(alloc: Global, entries: Vec<Entry>) -> Result<Vec<Kept>, AllocError>
     requires { (x : ℕ) → ¬ (LacksBody (declarations_of entries.items) x) }
-    ensures { IfOk result (λ kept. map as_declared (definitions_of kept.items) ≡ declarations_of entries.items) }
+    ensures {
+        IfOk result (λ kept.
+            map as_declared (definitions_of kept.items) ≡ declarations_of entries.items)
+    }
 {
     let mut kept = Vec::new(alloc);
     for entry in entries {

@@ -9,7 +9,8 @@ use flux_atom::{AtomKind, Name, Names, is_reserved};
 use std::alloc::{AllocError, Global};
 
 /// Appends the text of the tidied type. The labels in it, and the names of the definitions that it
-/// names, are names of the table.
+/// names, are names of the table. It recurses by the height of the type: at most 500 for one within
+/// the limits.
 pub fn write_type(
     alloc: Global,
     defs: &Defs,
@@ -18,7 +19,10 @@ pub fn write_type(
     out: &mut Vec<u8>,
 ) -> Result<(), AllocError>
     requires { IsWritable (length names.now) defs.now (tidy (ty_of ty.now)) }
-    ensures ok { OnOk result (out.new.items ≡ out.old.items ++ text_of names.now defs.now (tidy (ty_of ty.now))) }
+    ensures ok {
+        OnOk result (out.new.items ≡
+            out.old.items ++ text_of names.now defs.now (tidy (ty_of ty.now)))
+    }
     ensures err { OnErr result (out.new.items ≡ out.old.items) }
 {
     let tidied = tidy(alloc, ty)?;
@@ -31,7 +35,9 @@ pub fn write_type(
 #[cycle(push_type)]
 fn push_type(defs: &Defs, ty: &Ty, names: &Names, out: &mut Vec<u8>) -> Result<(), AllocError>
     requires { IsWritable (length names.now) defs.now (ty_of ty.now) }
-    ensures { OnOk result (out.new.items ≡ out.old.items ++ text_of names.now defs.now (ty_of ty.now)) }
+    ensures {
+        OnOk result (out.new.items ≡ out.old.items ++ text_of names.now defs.now (ty_of ty.now))
+    }
 {
     match ty {
         Ty::Empty => out.extend_from_slice(b"()"),
@@ -71,7 +77,10 @@ fn push_part(
     wanted: bool,
 ) -> Result<(), AllocError>
     requires { IsWritable (length names.now) defs.now (ty_of ty.now) }
-    ensures { OnOk result (out.new.items ≡ out.old.items ++ enclosed wanted (text_of names.now defs.now (ty_of ty.now))) }
+    ensures {
+        OnOk result (out.new.items ≡
+            out.old.items ++ enclosed wanted (text_of names.now defs.now (ty_of ty.now)))
+    }
 {
     if !wanted {
         return push_type(defs, ty, names, out);
@@ -85,7 +94,10 @@ fn push_part(
 #[cycle(push_type)]
 fn push_content(defs: &Defs, ty: &Ty, names: &Names, out: &mut Vec<u8>) -> Result<(), AllocError>
     requires { IsWritable (length names.now) defs.now (ty_of ty.now) }
-    ensures { OnOk result (out.new.items ≡ out.old.items ++ (if is_empty (ty_of ty.now) then [] else text_of names.now defs.now (ty_of ty.now))) }
+    ensures {
+        OnOk result (out.new.items ≡ out.old.items ++
+            (if is_empty (ty_of ty.now) then [] else text_of names.now defs.now (ty_of ty.now)))
+    }
 {
     if is_empty(ty) {
         return Ok(());
@@ -141,7 +153,9 @@ fn push_definition(
     out: &mut Vec<u8>,
 ) -> Result<(), AllocError>
     requires { IsSomeAnd (slice_get defs.now index) (λ d. d.name < length names.now) }
-    ensures { OnOk result (out.new.items ≡ out.old.items ++ definition_text names.now defs.now index) }
+    ensures {
+        OnOk result (out.new.items ≡ out.old.items ++ definition_text names.now defs.now index)
+    }
 {
     let text = names.text(defs.name(index));
     out.extend_from_slice(text.as_bytes())

@@ -9,11 +9,15 @@ use crate::ty::{Ty, is_same};
 use flux_atom::Boxed;
 use std::alloc::{AllocError, Global};
 
-/// The type without what adds nothing to it, which has the same members.
+/// The type without what adds nothing to it, which has the same members. It recurses by the height
+/// of the type, and not along names.
 #[tactic(auto, using(flux_schema::proofs::TidyLaws::tidied_members))]
 pub fn tidy(alloc: Global, ty: &Ty) -> Result<Ty, AllocError>
     ensures form { IfOk result (λ made. ty_of made ≡ tidy (ty_of ty.now)) }
-    ensures members { IfOk result (λ made. (defs : Definitions) → SameMembers defs (ty_of ty.now) (ty_of made)) }
+    ensures members {
+        IfOk result (λ made.
+            (defs : Definitions) → SameMembers defs (ty_of ty.now) (ty_of made))
+    }
 {
     tree(alloc, ty)
 }

@@ -8,7 +8,8 @@ use flux_atom::{AtomKind, Boxed, Name};
 use std::alloc::{AllocError, Global};
 
 /// A regular expression over truth values, texts and elements. Contracts read it as the type of
-/// the calculus that it spells.
+/// the calculus that it spells. A type is dropped by a recursion as deep as its height: at most 500
+/// for one within the limits.
 #[derive(Debug, Drop)]
 pub enum Ty {
     /// The empty forest.
@@ -27,7 +28,7 @@ pub enum Ty {
     Named(u32),
 }
 
-/// How many nodes a type has, or `u64::MAX` where these are more.
+/// How many nodes a type has, or `u64::MAX` where these are more. It recurses by the height.
 pub fn size(ty: &Ty) -> u64
     ensures { result ≡ min (size (ty_of ty.now)) (2 ^ 64 - 1) }
 {
@@ -40,7 +41,7 @@ pub fn size(ty: &Ty) -> u64
     }
 }
 
-/// How many levels a type has, or `u64::MAX` where these are more.
+/// How many levels a type has, or `u64::MAX` where these are more. It recurses by the height.
 pub fn height(ty: &Ty) -> u64
     ensures { result ≡ min (height (ty_of ty.now)) (2 ^ 64 - 1) }
 {
@@ -55,7 +56,7 @@ pub fn height(ty: &Ty) -> u64
     }
 }
 
-/// An equal type.
+/// An equal type. It recurses by the height of the type, and not along names.
 pub fn copy_of(alloc: Global, ty: &Ty) -> Result<Ty, AllocError>
     ensures { IfOk result (λ copied. copied ≡ ty.now) }
 {
@@ -78,18 +79,35 @@ pub fn copy_of(alloc: Global, ty: &Ty) -> Result<Ty, AllocError>
     })
 }
 
-/// Whether two types are the same tree.
+/// Whether two types are the same tree. It recurses by the smaller height.
 pub(crate) fn is_same(left: &Ty, right: &Ty) -> bool
     ensures { result ≡ same (ty_of left.now) (ty_of right.now) }
 {
-    match (left, right) {
-        (Ty::Empty, Ty::Empty) => true,
-        (Ty::Atom(k), Ty::Atom(l)) => k == l,
-        (Ty::Elem(n, t), Ty::Elem(m, u)) => n == m && is_same(t.get(), u.get()),
-        (Ty::Seq(t, u), Ty::Seq(v, w)) => is_same(t.get(), v.get()) && is_same(u.get(), w.get()),
-        (Ty::Alt(t, u), Ty::Alt(v, w)) => is_same(t.get(), v.get()) && is_same(u.get(), w.get()),
-        (Ty::Star(t), Ty::Star(u)) => is_same(t.get(), u.get()),
-        (Ty::Named(x), Ty::Named(y)) => x == y,
-        _ => false,
+    match left {
+        Ty::Empty => matches!(right, Ty::Empty),
+        Ty::Atom(k) => match right {
+            Ty::Atom(l) => k == l,
+            _ => false,
+        },
+        Ty::Elem(n, t) => match right {
+            Ty::Elem(m, u) => n == m && is_same(t.get(), u.get()),
+            _ => false,
+        },
+        Ty::Seq(t, u) => match right {
+            Ty::Seq(v, w) => is_same(t.get(), v.get()) && is_same(u.get(), w.get()),
+            _ => false,
+        },
+        Ty::Alt(t, u) => match right {
+            Ty::Alt(v, w) => is_same(t.get(), v.get()) && is_same(u.get(), w.get()),
+            _ => false,
+        },
+        Ty::Star(t) => match right {
+            Ty::Star(u) => is_same(t.get(), u.get()),
+            _ => false,
+        },
+        Ty::Named(x) => match right {
+            Ty::Named(y) => x == y,
+            _ => false,
+        },
     }
 }

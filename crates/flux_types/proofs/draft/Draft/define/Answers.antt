@@ -2,7 +2,7 @@ use Rattle.std.proofs.Common.{◌≡◌, ◌∙◌, sym, subst, length, ap, arit
 use Rattle.flux_schema.specs.Ty.{NamesBelow}
 use Rattle.flux_schema.specs.Definitions.{with_body, declared_names}
 use Rattle.flux_types.specs.Kept.{declarations_of, IsDraft, IsBody}
-use Rattle.flux_types.specs.Places.{Locates}
+use Rattle.flux_types.specs.Indices.{Locates}
 use Rattle.flux_types.specs.Read.{ty_of}
 use Rattle.flux_types.proofs.KeptLaws.{IsDraft-with_body, names-with_body, take_whole}
 use Rattle.flux_types.proofs.draft.Draft.define.Goals as goal
@@ -16,6 +16,6 @@ invariant_of-self c =
     let fits : IsBody (length ds) t = record { known = subst (λ d. NamesBelow (length d) t) (sym c.self.view_is) c.requires.known; limits = c.requires.limits } in
     let whole = sym (take_whole c.put_body.new.entries _ c.self.inside.entries.len same) in (
       subst (λ es. IsDraft (declarations_of es)) whole (subst IsDraft (sym made) (IsDraft-with_body ds c.args.index t c.self.invariant.0 fits)),
-      subst (λ es. Locates c.self.inside.places.items (declared_names (declarations_of es))) whole
-          (subst (λ d. Locates c.self.inside.places.items (declared_names d)) (sym made) (subst (Locates c.self.inside.places.items) (sym (names-with_body ds c.args.index t)) c.self.invariant.1)),
+      subst (λ es. Locates c.self.inside.indices.items (declared_names (declarations_of es))) whole
+          (subst (λ d. Locates c.self.inside.indices.items (declared_names d)) (sym made) (subst (Locates c.self.inside.indices.items) (sym (names-with_body ds c.args.index t)) c.self.invariant.1)),
     )

@@ -1,7 +1,7 @@
 -- Names are located as they are added.
 use Rattle.std.proofs.Common.{◌≡◌, ◌⊎◌, ℕ, zero, suc, ◌<◌, List, [], ◌∷◌, ◌++◌, length, Option, Some, None, slice_get, refl, sym, ap, ◌∙◌, inl, inr, arith}
 use Rattle.std.proofs.Math.ListN.{set}
-use Rattle.flux_types.specs.Places.{index_in, Locates}
+use Rattle.flux_types.specs.Indices.{index_in, Locates}
 use Rattle.flux_types.proofs.KeptLaws.{get-push}
 
 pub index_in-push : (ps : List (Option ℕ)) (n : ℕ) → index_in (ps ++ None ∷ []) n ≡ index_in ps n

@@ -1,7 +1,0 @@
-use Rattle.std.proofs.Common.{◌∙◌, ap}
-use Rattle.flux_types.specs.Places.{index_in}
-use Rattle.flux_types.proofs.PlacesLaws.{index_in-push}
-use Rattle.flux_types.proofs.places.make_room.Goals as goal
-
-pub loop-name-preserved : goal.loop-name-preserved
-loop-name-preserved c = λ n. ap (λ ps. index_in ps n) c.in_ok-push.ensures.items ∙ index_in-push c.loop-name.places.items n ∙ c.loop-name.invariant n

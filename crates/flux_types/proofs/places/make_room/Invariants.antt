@@ -1,9 +1,0 @@
-use Rattle.std.proofs.Common.{◌≡◌, ℕ, suc, ◌-◌, length}
-use Rattle.flux_types.specs.Places.{index_in}
-use Rattle.flux_types.proofs.places.make_room.Given as goal
-
-abbrev pub invariant-loop-name : goal.invariant-loop-name
-invariant-loop-name l = (n : ℕ) → index_in l.places.items n ≡ index_in l.fn.places.items n
-
-abbrev pub decreases-loop-name : goal.decreases-loop-name
-decreases-loop-name l = suc l.name - length l.places.items
