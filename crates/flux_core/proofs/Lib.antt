@@ -1,1 +1,6 @@
 pub mod GammaLaws
+pub mod Replies
+pub mod WalkLaws
+pub mod Work
+pub mod Walking
+pub mod TurnLaws

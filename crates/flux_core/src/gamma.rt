@@ -85,7 +85,8 @@ impl Gamma {
 
 // The last of the variables that is this one.
 fn last(params: &[Param], var: Var) -> Option<&Param>
-    ensures some { IfSome result (λ param. found (context_of params.now) var ≡ Some (ty_of param.now.ty)) }
+    ensures some { IfSome result (λ param.
+        found (context_of params.now) var ≡ Some (ty_of param.now.ty)) }
     ensures none { IfNone result (found (context_of params.now) var ≡ None) }
 {
     for param in params.iter().rev() {

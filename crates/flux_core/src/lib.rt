@@ -1,10 +1,17 @@
-//! What the typing of the core language names: variables with their types, and what can be wrong.
+//! What the typing of the core language stands on: variables with their types, what can be wrong,
+//! types that are concluded, and walks over types.
 #![tactic(auto)]
 
+mod conclude;
 mod fault;
 mod gamma;
+mod measured;
 #[cfg(test)]
 mod tests;
+mod walk;
 
+pub use conclude::{either, in_sequence, nothing, one_atom, one_element, repeated};
 pub use fault::KindFault;
 pub use gamma::{Gamma, Param};
+pub use measured::{Measured, copied, measure};
+pub use walk::{Turn, Walk};

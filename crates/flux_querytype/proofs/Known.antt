@@ -1,13 +1,15 @@
 -- A type that a query has is known, where those of its variables are.
 use Rattle.std.proofs.Common.{◌≡◌, ℕ, Bool, true, false, ◌∷◌, Option, Some, sym, subst, if◌then◌else◌}
+use Rattle.std.proofs.lemmas.Option.{same_Some}
 use Rattle.flux_schema.specs.Ty.{Ty, empty, element, seq, alt, star, named, IsWithinLimits}
 use Rattle.flux_schema.specs.Definitions.{Definitions, IsKnown, AreKnown}
 use Rattle.flux_schema.specs.Single.{Single, of_atom as of_atom_type, of_element as of_element_type, of_name as of_named}
 use Rattle.flux_types.specs.Kept.{AreKept}
 use Rattle.flux_calculus.specs.declared.ask.Var.{Var}
 use Rattle.flux_calculus.specs.Query.{Query, found, same_var}
-use Rattle.flux_calculus.specs.Typing.{Context, Outcome, typed, faulty, too_large, is_within, concluded, Treatment, Goal, of_query, of_map, returning, keeping, type_matches, kept, Types, of_nothing, of_one, of_several, first_of_several, others_of_several, of_element, content_of_element, of_literal, of_variable, of_no_variable, of_binding, bound_of_binding, of_choice, condition_of_choice, no_truth_of_choice, yes_of_choice, no_of_choice, of_alike, left_of_alike, right_of_alike, of_child, of_atom_child, of_many_child, of_no_child, of_filter, from_of_filter, of_each, over_of_each, returns, body_of_each, keeps, of_empty, of_seq, left_of_seq, right_of_seq, of_alt, left_of_alt, right_of_alt, of_star, inside_of_star, of_name}
-use Rattle.flux_querytype.specs.Faults.{IsUsable, AreUsable}
+use Rattle.flux_calculus.specs.Fault.{too_large}
+use Rattle.flux_calculus.specs.Typing.{Context, Outcome, typed, faulty, is_within, concluded, Treatment, Goal, of_query, of_map, returning, keeping, type_matches, kept, Types, of_nothing, of_one, of_several, first_of_several, others_of_several, of_element, content_of_element, of_literal, of_variable, of_no_variable, of_binding, bound_of_binding, of_choice, condition_of_choice, no_truth_of_choice, yes_of_choice, no_of_choice, of_alike, left_of_alike, right_of_alike, of_child, of_atom_child, of_many_child, of_no_child, of_filter, from_of_filter, of_each, over_of_each, returns, body_of_each, keeps, of_empty, of_seq, left_of_seq, right_of_seq, of_alt, left_of_alt, right_of_alt, of_star, inside_of_star, of_name}
+use Rattle.flux_core.specs.Faults.{IsUsable, AreUsable}
 use Rattle.flux_querytype.specs.Answers.{IsReady}
 
 module _ (defs : Definitions) (known : AreKnown defs) where
@@ -44,10 +46,7 @@ module _ (defs : Definitions) (known : AreKnown defs) where
   single_known (of_named x e s) h = single_known s (known x _ e)
 
   bound_by : (b : Bool) (t u : Ty) (o : Option Ty) → IsKnown defs t → (o ≡ Some u → IsKnown defs u) → (if b then Some t else o) ≡ Some u → IsKnown defs u
-  bound_by true t u o h f e = let P : Ty → Type 0 = λ w. IsKnown defs w in subst P (same_some e) h
-    where
-      same_some : {t u : Ty} → Some t ≡ Some u → t ≡ u
-      same_some e = cc
+  bound_by true t u o h f e = let P : Ty → Type 0 = λ w. IsKnown defs w in subst P (same_Some _ _ e) h
   bound_by false t u o h f e = f e
 
   known_bound : (Γ : Context) (x : Var) (t : Ty) → AllKnown Γ → IsKnown defs t → AllKnown ((x, t) ∷ Γ)
@@ -63,10 +62,10 @@ module _ (defs : Definitions) (known : AreKnown defs) where
   knows (of_several {Γ} {at} {next} {q} {r} {s} {t} {u} {o} d e c) =
       let f = knows d in
       let h = knows e in
-      conclude (of_query Γ q) at (seq t u) o (λ a. (f a, h a)) c
+      conclude (of_query Γ q) at.from (seq t u) o (λ a. (f a, h a)) c
   knows (first_of_several d) = tt
   knows (others_of_several d e) = tt
-  knows (of_element {Γ} {at} {n} {q} {t} {o} d c) = let f = knows d in conclude (of_query Γ q) at (element n t) o f c
+  knows (of_element {Γ} {at} {n} {q} {t} {o} d c) = let f = knows d in conclude (of_query Γ q) at.from (element n t) o f c
   knows (content_of_element d) = tt
   knows (of_literal x) = λ a. tt
   knows (of_variable {Γ} {at} {x} {t} e) = λ a. a x t e
@@ -78,7 +77,7 @@ module _ (defs : Definitions) (known : AreKnown defs) where
   knows (of_choice {Γ} {at} {c} {q} {r} {t} {u} {w} {o} d i e h k) =
       let f = knows e in
       let l = knows h in
-      conclude (of_query Γ q) at (alt u w) o (λ a. (f a, l a)) k
+      conclude (of_query Γ q) at.from (alt u w) o (λ a. (f a, l a)) k
   knows (condition_of_choice d) = tt
   knows (no_truth_of_choice v d m n) = tt
   knows (yes_of_choice d i e) = tt
@@ -92,11 +91,11 @@ module _ (defs : Definitions) (known : AreKnown defs) where
   knows (of_no_child e) = tt
   knows (of_filter {Γ} {at} {q} {p} {t} {o} d e) =
       let f = knows d in
-      carry (of_map at (keeping p) t) (of_query Γ q) o (λ u h a. h tt (f a)) (knows e)
+      carry (of_map at.from (keeping p) t) (of_query Γ q) o (λ u h a. h tt (f a)) (knows e)
   knows (from_of_filter d) = tt
   knows (of_each {Γ} {at} {x} {q} {r} {t} {o} d e) =
       let f = knows d in
-      carry (of_map at (returning Γ x r) t) (of_query Γ q) o (λ u h a. h a (f a)) (knows e)
+      carry (of_map at.from (returning Γ x r) t) (of_query Γ q) o (λ u h a. h a (f a)) (knows e)
   knows (over_of_each d) = tt
   knows (returns {Γ} {at} {x} {q} {a} {t} {o} i d c) =
       let f = knows d in
@@ -128,10 +127,7 @@ typed_usable defs Γ q t ready d limits = record {
 }
 
 usable_by : (defs : Definitions) (b : Bool) (t u : Ty) (o : Option Ty) → IsUsable defs t → (o ≡ Some u → IsUsable defs u) → (if b then Some t else o) ≡ Some u → IsUsable defs u
-usable_by defs true t u o h f e = let P : Ty → Type 0 = λ w. IsUsable defs w in subst P (same_some e) h
-  where
-    same_some : {t u : Ty} → Some t ≡ Some u → t ≡ u
-    same_some e = cc
+usable_by defs true t u o h f e = let P : Ty → Type 0 = λ w. IsUsable defs w in subst P (same_Some _ _ e) h
 usable_by defs false t u o h f e = f e
 
 -- with a variable bound to a type that can be used

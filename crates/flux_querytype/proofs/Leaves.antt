@@ -9,11 +9,12 @@ use Rattle.flux_types.specs.declared.ty.Ty.TheVariants.{Empty, Atom, Elem, Seq, 
 use Rattle.flux_types.specs.Kept.{AreKept}
 use Rattle.flux_types.specs.Read.{ty_of}
 use Rattle.flux_types.proofs.Variants.{of_empty, of_atom, of_elem, of_seq, of_alt, of_star, of_named}
+use Rattle.flux_calculus.specs.declared.ask.Span.{Span}
 use Rattle.flux_calculus.specs.declared.ask.Var.{Var}
 use Rattle.flux_calculus.specs.Query.{variable, child, found}
 use Rattle.flux_calculus.specs.Typing.{Context, typed, of_query, Types, of_variable, of_child, of_atom_child}
 
-module _ (defs : Definitions) (Γ : Context) (at : ℕ) (x : Var) where
+module _ (defs : Definitions) (Γ : Context) (at : Span) (x : Var) where
   pub variable_copied : (m t : Tree) → found Γ x ≡ Some (ty_of t) → m ≡ t → Types defs (of_query Γ (variable at x)) (typed (ty_of m))
   variable_copied m t e f = let P : Tree → Type 0 = λ m. Types defs (of_query Γ (variable at x)) (typed (ty_of m)) in subst P (sym f) (of_variable e)
 

@@ -1,8 +1,8 @@
-pub mod Steps
 pub mod Weights
-pub mod Replies
 pub mod Queries
 pub mod Leaves
 pub mod Known
+pub mod Left
+pub mod MapLaws
 pub mod Typed
 pub mod Shown

@@ -12,43 +12,43 @@ use Rattle.flux_query.specs.declared.query.Query.TheFolds.{fold-roll-Query}
 use Rattle.flux_query.specs.declared.query.Query.TheVariants.{Concat, Elem, Lit, Var, Let, If, Same, Child, Filter, For, rolls-Concat, rolls-Elem, rolls-Lit, rolls-Var, rolls-Let, rolls-If, rolls-Same, rolls-Child, rolls-Filter, rolls-For}
 use Rattle.flux_query.specs.Read.{listed, query_step, query_of, queries_of}
 
-pub of_concat : (x : Query) (qs : List Query) (s : Span) → x ≡ Concat qs s → query_of x ≡ queries_of s.from qs
+pub of_concat : (x : Query) (qs : List Query) (s : Span) → x ≡ Concat qs s → query_of x ≡ queries_of s qs
 of_concat x qs s e = ap query_of (e ∙ sym (rolls-Concat qs s)) ∙ fold-roll-Query calculus.Query query_step (Query-F.Concat qs s)
 
-pub of_elem : (x : Query) (n : ℕ) (q a : Query) (s : Span) → x ≡ Elem n q s → a ≡ q → query_of x ≡ element s.from n (query_of a)
-of_elem x n q a s e f = ap query_of (e ∙ sym (rolls-Elem n q s)) ∙ fold-roll-Query calculus.Query query_step (Query-F.Elem n q s) ∙ ap (element s.from n) (ap query_of (sym f))
+pub of_elem : (x : Query) (n : ℕ) (q a : Query) (s : Span) → x ≡ Elem n q s → a ≡ q → query_of x ≡ element s n (query_of a)
+of_elem x n q a s e f = ap query_of (e ∙ sym (rolls-Elem n q s)) ∙ fold-roll-Query calculus.Query query_step (Query-F.Elem n q s) ∙ ap (element s n) (ap query_of (sym f))
 
-pub of_lit : (x : Query) (a : Atom) (s : Span) → x ≡ Lit a s → query_of x ≡ literal s.from a
+pub of_lit : (x : Query) (a : Atom) (s : Span) → x ≡ Lit a s → query_of x ≡ literal s a
 of_lit x a s e = ap query_of (e ∙ sym (rolls-Lit a s)) ∙ fold-roll-Query calculus.Query query_step (Query-F.Lit a s)
 
-pub of_var : (x : Query) (v : Variable) (s : Span) → x ≡ Var v s → query_of x ≡ variable s.from v
+pub of_var : (x : Query) (v : Variable) (s : Span) → x ≡ Var v s → query_of x ≡ variable s v
 of_var x v s e = ap query_of (e ∙ sym (rolls-Var v s)) ∙ fold-roll-Query calculus.Query query_step (Query-F.Var v s)
 
-pub of_let : (x : Query) (v : Variable) (q r a b : Query) (s : Span) → x ≡ Let v q r s → a ≡ q → b ≡ r → query_of x ≡ binding s.from v (query_of a) (query_of b)
-of_let x v q r a b s e f g = ap query_of (e ∙ sym (rolls-Let v q r s)) ∙ fold-roll-Query calculus.Query query_step (Query-F.Let v q r s) ∙ ap₂ (binding s.from v) (ap query_of (sym f)) (ap query_of (sym g))
+pub of_let : (x : Query) (v : Variable) (q r a b : Query) (s : Span) → x ≡ Let v q r s → a ≡ q → b ≡ r → query_of x ≡ binding s v (query_of a) (query_of b)
+of_let x v q r a b s e f g = ap query_of (e ∙ sym (rolls-Let v q r s)) ∙ fold-roll-Query calculus.Query query_step (Query-F.Let v q r s) ∙ ap₂ (binding s v) (ap query_of (sym f)) (ap query_of (sym g))
 
-pub of_if : (x c q r d a b : Query) (s : Span) → x ≡ If c q r s → d ≡ c → a ≡ q → b ≡ r → query_of x ≡ choice s.from (query_of d) (query_of a) (query_of b)
+pub of_if : (x c q r d a b : Query) (s : Span) → x ≡ If c q r s → d ≡ c → a ≡ q → b ≡ r → query_of x ≡ choice s (query_of d) (query_of a) (query_of b)
 of_if x c q r d a b s e h f g = ap query_of (e ∙ sym (rolls-If c q r s)) ∙ fold-roll-Query calculus.Query query_step (Query-F.If c q r s) ∙ cc (ap query_of (sym h), ap query_of (sym f), ap query_of (sym g))
 
-pub of_same : (x q r a b : Query) (s : Span) → x ≡ Same q r s → a ≡ q → b ≡ r → query_of x ≡ alike s.from (query_of a) (query_of b)
-of_same x q r a b s e f g = ap query_of (e ∙ sym (rolls-Same q r s)) ∙ fold-roll-Query calculus.Query query_step (Query-F.Same q r s) ∙ ap₂ (alike s.from) (ap query_of (sym f)) (ap query_of (sym g))
+pub of_same : (x q r a b : Query) (s : Span) → x ≡ Same q r s → a ≡ q → b ≡ r → query_of x ≡ alike s (query_of a) (query_of b)
+of_same x q r a b s e f g = ap query_of (e ∙ sym (rolls-Same q r s)) ∙ fold-roll-Query calculus.Query query_step (Query-F.Same q r s) ∙ ap₂ (alike s) (ap query_of (sym f)) (ap query_of (sym g))
 
-pub of_child : (x : Query) (v : Variable) (s : Span) → x ≡ Child v s → query_of x ≡ child s.from v
+pub of_child : (x : Query) (v : Variable) (s : Span) → x ≡ Child v s → query_of x ≡ child s v
 of_child x v s e = ap query_of (e ∙ sym (rolls-Child v s)) ∙ fold-roll-Query calculus.Query query_step (Query-F.Child v s)
 
-pub of_filter : (x q a : Query) (t : Test) (s : Span) → x ≡ Filter q t s → a ≡ q → query_of x ≡ filter s.from (query_of a) t
-of_filter x q a t s e f = ap query_of (e ∙ sym (rolls-Filter q t s)) ∙ fold-roll-Query calculus.Query query_step (Query-F.Filter q t s) ∙ ap (λ b. filter s.from b t) (ap query_of (sym f))
+pub of_filter : (x q a : Query) (t : Test) (s : Span) → x ≡ Filter q t s → a ≡ q → query_of x ≡ filter s (query_of a) t
+of_filter x q a t s e f = ap query_of (e ∙ sym (rolls-Filter q t s)) ∙ fold-roll-Query calculus.Query query_step (Query-F.Filter q t s) ∙ ap (λ b. filter s b t) (ap query_of (sym f))
 
-pub of_for : (x : Query) (v : Variable) (q r a b : Query) (s : Span) → x ≡ For v q r s → a ≡ q → b ≡ r → query_of x ≡ each s.from v (query_of a) (query_of b)
-of_for x v q r a b s e f g = ap query_of (e ∙ sym (rolls-For v q r s)) ∙ fold-roll-Query calculus.Query query_step (Query-F.For v q r s) ∙ ap₂ (each s.from v) (ap query_of (sym f)) (ap query_of (sym g))
+pub of_for : (x : Query) (v : Variable) (q r a b : Query) (s : Span) → x ≡ For v q r s → a ≡ q → b ≡ r → query_of x ≡ each s v (query_of a) (query_of b)
+of_for x v q r a b s e f g = ap query_of (e ∙ sym (rolls-For v q r s)) ∙ fold-roll-Query calculus.Query query_step (Query-F.For v q r s) ∙ ap₂ (each s v) (ap query_of (sym f)) (ap query_of (sym g))
 
 -- the place of queries one behind the other
-place-listed : (at : ℕ) (qs : List calculus.Query) → place_of (listed at qs) ≡ at
+place-listed : (at : Span) (qs : List calculus.Query) → place_of (listed at qs) ≡ at.from
 place-listed at [] = refl
 place-listed at (q ∷ qs) = refl
 
 pub place_of_concat : (x : Query) (qs : List Query) (s : Span) → x ≡ Concat qs s → s.from ≡ place_of (query_of x)
-place_of_concat x qs s e = sym (ap place_of (of_concat x qs s e) ∙ place-listed s.from (map query_of qs))
+place_of_concat x qs s e = sym (ap place_of (of_concat x qs s e) ∙ place-listed s (map query_of qs))
 
 pub place_of_other : (x : Query) (q : calculus.Query) (at : ℕ) → query_of x ≡ q → place_of q ≡ at → at ≡ place_of (query_of x)
 place_of_other x q at e f = sym (ap place_of e ∙ f)

@@ -12,7 +12,7 @@ use Rattle.flux_types.specs.Kept.{AreKept}
 use Rattle.flux_types.specs.Verdicts.{IsEvidence}
 use Rattle.flux_calculus.specs.declared.ask.Var.{Var}
 use Rattle.flux_calculus.specs.Typing.{Context}
-use Rattle.flux_querytype.specs.Faults.{IsUsable, AreUsable}
+use Rattle.flux_core.specs.Faults.{IsUsable, AreUsable}
 use Rattle.flux_querytype.proofs.Known.{ready_bound}
 
 no_truth : {defs : Definitions} {w : Word} → Member defs (leaf tt (Words w) nil) (atom kind.Bool) → ⊥

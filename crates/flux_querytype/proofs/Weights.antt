@@ -1,5 +1,6 @@
--- How much of a query there is to type: a share for each of its nodes, in which a type can be walked.
-use Rattle.std.proofs.Common.{ℕ, ◌≡◌, ◌≤◌, ◌+◌, ◌*◌, List, [], ◌∷◌, ◌++◌, ap, arith}
+-- How much of a query there is to type.
+use Rattle.std.proofs.Common.{ℕ, ◌≡◌, ◌≤◌, ◌+◌, List, [], ◌∷◌, ◌++◌, ap, arith}
+use Rattle.flux_calculus.specs.declared.ask.Span.{Span}
 use Rattle.flux_calculus.specs.Query as calculus
 use Rattle.flux_calculus.specs.Query.{nothing, both, element, literal, variable, binding, choice, alike, child, filter, each}
 use Rattle.flux_query.specs.declared.query.Query.{Query}
@@ -22,10 +23,6 @@ abbrev pub weights : List Query → ℕ
 weights [] = 0
 weights (q ∷ qs) = weight (query_of q) + weights qs
 
--- more than the steps of any walk
-abbrev pub share : ℕ → ℕ
-share n = n * 1125899906842624
-
 pub weights-append : (xs ys : List Query) → weights (xs ++ ys) ≡ weights xs + weights ys
 weights-append [] ys = omega arith
 weights-append (x ∷ xs) ys = omega (arith, weights-append xs ys)
@@ -36,11 +33,11 @@ weight_last all left p e = omega (arith, ap weights e, weights-append left (p �
 pub weight_inside : (all left fewer rest : List Query) (p : Query) → all ≡ left ++ rest → left ≡ fewer ++ p ∷ [] → weight (query_of p) ≤ weights all
 weight_inside all left fewer rest p e f = omega (arith, ap weights e, weights-append left rest, ap weights f, weights-append fewer (p ∷ []))
 
-listed_weight : (at : ℕ) (qs : List Query) → weights qs + 1 ≤ weight (queries_of at qs)
+listed_weight : (at : Span) (qs : List Query) → weights qs + 1 ≤ weight (queries_of at qs)
 listed_weight at [] = omega arith
 listed_weight at (q ∷ qs) = omega (arith, listed_weight at qs)
 
-pub weights_below : (q : calculus.Query) (at : ℕ) (items qs : List Query) → q ≡ queries_of at items → qs ≡ items → weights qs + 1 ≤ weight q
+pub weights_below : (q : calculus.Query) (at : Span) (items qs : List Query) → q ≡ queries_of at items → qs ≡ items → weights qs + 1 ≤ weight q
 weights_below q at items qs e f = omega (arith, ap weight e, ap weights f, listed_weight at items)
 
 pub weight_pos : (q : calculus.Query) → 1 ≤ weight q

@@ -4,13 +4,11 @@ ghost use Rattle.flux_types.specs.Kept.{AreKept};
 ghost use Rattle.flux_calculus.specs.Query.{place_of, variable, child};
 ghost use Rattle.flux_calculus.specs.Typing.{Types, of_query};
 ghost use Rattle.flux_query.specs.Read.{query_of};
-ghost use Rattle.flux_querytype.specs.Faults.{AreUsable};
-ghost use Rattle.flux_querytype.specs.Answers.{IsAnswer};
+ghost use Rattle.flux_core.specs.Faults.{AreUsable};
+ghost use Rattle.flux_core.specs.Answers.{IsAnswer};
 
-use crate::measured::{Measured, copied};
-use crate::parts::nothing;
-use flux_calculus::Var;
-use flux_core::{Gamma, KindFault};
+use flux_calculus::{Span, Var};
+use flux_core::{Gamma, KindFault, Measured, copied, nothing};
 use flux_query::Query;
 use flux_types::{Defs, Ty, single};
 use std::alloc::Global;
@@ -37,16 +35,17 @@ pub(crate) fn place(query: &Query) -> u32
 pub(crate) fn type_variable(
     alloc: Global,
     var: &Var,
-    place: u32,
+    span: &Span,
     gamma: &Gamma,
     defs: &Defs,
 ) -> Result<Measured, KindFault>
     requires { AreUsable defs.now gamma.now }
-    ensures { IsAnswer defs.now (Types defs.now (of_query gamma.now (variable place var.now))) result }
+    ensures { IsAnswer defs.now
+        (Types defs.now (of_query gamma.now (variable span.now var.now))) result }
 {
     match gamma.get(*var) {
         Some(ty) => Ok(copied(alloc, ty)?),
-        None => Err(KindFault::UnknownVar { place }),
+        None => Err(KindFault::UnknownVar { place: span.from }),
     }
 }
 
@@ -54,19 +53,20 @@ pub(crate) fn type_variable(
 pub(crate) fn type_child(
     alloc: Global,
     var: &Var,
-    place: u32,
+    span: &Span,
     gamma: &Gamma,
     defs: &Defs,
 ) -> Result<Measured, KindFault>
     requires defs { AreKept defs.now }
     requires usable { AreUsable defs.now gamma.now }
-    ensures { IsAnswer defs.now (Types defs.now (of_query gamma.now (child place var.now))) result }
+    ensures { IsAnswer defs.now
+        (Types defs.now (of_query gamma.now (child span.now var.now))) result }
 {
     let Some(ty) = gamma.get(*var) else {
-        return Err(KindFault::UnknownVar { place });
+        return Err(KindFault::UnknownVar { place: span.from });
     };
     let Some(one) = single(defs, ty) else {
-        return Err(KindFault::NotSingle { place });
+        return Err(KindFault::NotSingle { place: span.from });
     };
     match one {
         Ty::Elem(_, content) => Ok(copied(alloc, content.get())?),

@@ -4,8 +4,6 @@
 
 mod filter;
 mod leaf;
-mod measured;
-mod parts;
 mod query;
 mod query_type;
 #[cfg(test)]

@@ -1,28 +1,30 @@
 // The type of a query, or the first fault.
-ghost use Rattle.std.specs.Prelude.{◌≡◌, ◌∷◌, ℕ, Contains, OnOk, IfErr};
+ghost use Rattle.std.specs.Prelude.{◌∷◌, OnOk, IfErr};
 ghost use Rattle.flux_types.specs.Read.{ty_of};
-ghost use Rattle.flux_types.specs.Verdicts.{TypePair};
+ghost use Rattle.flux_calculus.specs.declared.ask.Span.{Span as Place};
 ghost use Rattle.flux_calculus.specs.Query.{element, binding, choice, alike, filter, each};
-ghost use Rattle.flux_calculus.specs.Typing.{Types, of_query, of_map, returning, IsAtomic};
+ghost use Rattle.flux_calculus.specs.Typing.{Types, of_query, of_map, returning};
 ghost use Rattle.flux_query.specs.Read.{query_of, queries_of};
-ghost use Rattle.flux_querytype.specs.Faults.{IsFault, IsUsable};
-ghost use Rattle.flux_querytype.specs.Answers.{IsReady, IsAnswer, IsAfter, IsTruth, InAnyChoice};
+ghost use Rattle.flux_core.specs.Faults.{IsFault, IsUsable};
+ghost use Rattle.flux_core.specs.Answers.{IsAnswer};
+ghost use Rattle.flux_querytype.specs.Answers.{Leaves, IsReady, IsAfter, IsTruth, InAnyChoice};
 
 use crate::filter::filtered;
 use crate::leaf::{place, type_child, type_variable};
-use crate::measured::Measured;
-use crate::parts::{either, in_sequence, nothing, one_atom, one_element, repeated};
 use flux_atom::{AtomKind, Name, kind};
-use flux_calculus::{Test, Var};
-use flux_core::{Gamma, KindFault, Param};
+use flux_calculus::{Span, Test, Var};
+use flux_core::{
+    Gamma, KindFault, Measured, Param, Turn, Walk, either, in_sequence, nothing, one_atom,
+    one_element,
+};
 use flux_query::Query;
-use flux_types::{Decider, Ty, Verdict, copy_of};
+use flux_types::{Decider, Ty, Verdict};
 use std::alloc::Global;
 
 // What is done with each tree of a type: the variable is bound to it, and the body is typed.
 #[derive(Drop)]
 struct Step<'q> {
-    place: u32,
+    span: Span,
     var: Var,
     body: &'q Query,
 }
@@ -35,46 +37,37 @@ pub(crate) fn type_of<D: Decider>(
     decider: &mut D,
 ) -> Result<Measured, KindFault>
     requires ready { IsReady (D.definitions decider.old) gamma.old }
-    ensures answer { IsAnswer (D.definitions decider.old) (Types (D.definitions decider.old) (of_query gamma.old (query_of query.now))) result }
-    ensures gamma { gamma.new ≡ gamma.old }
-    ensures definitions { D.definitions decider.new ≡ D.definitions decider.old }
-    ensures keeps { D.keeps decider.new ≡ D.keeps decider.old }
-    ensures still { (p : TypePair) → Contains (D.known decider.old) p → Contains (D.known decider.new) p }
+    ensures answer { let defs = D.definitions decider.old in
+        IsAnswer defs (Types defs (of_query gamma.old (query_of query.now))) result }
+    ensures left { Leaves D.definitions D.keeps D.known decider.old decider.new
+        gamma.old gamma.new }
 {
     match query {
         Query::Concat(queries, span) => {
-            type_all(alloc, queries.as_slice(), span.from, gamma, decider)
+            type_all(alloc, queries.as_slice(), *span, gamma, decider)
         }
         Query::Elem(label, content, span) => {
-            type_element(alloc, content.get(), *label, span.from, gamma, decider)
+            type_element(alloc, content.get(), *label, *span, gamma, decider)
         }
         Query::Lit(atom, _) => Ok(one_atom(kind(atom))),
-        Query::Var(var, span) => type_variable(alloc, var, span.from, gamma, decider.defs()),
+        Query::Var(var, span) => type_variable(alloc, var, span, gamma, decider.defs()),
         Query::Let(var, bound, body, _) => {
             type_binding(alloc, bound.get(), var, body.get(), gamma, decider)
         }
         Query::If(condition, yes, no, span) => {
             let condition = condition.get();
-            type_choice(
-                alloc,
-                condition,
-                yes.get(),
-                no.get(),
-                span.from,
-                gamma,
-                decider,
-            )
+            type_choice(alloc, condition, yes.get(), no.get(), *span, gamma, decider)
         }
         Query::Same(left, right, _) => {
             type_alike(alloc, left.get(), right.get(), gamma, decider)
         }
-        Query::Child(var, span) => type_child(alloc, var, span.from, gamma, decider.defs()),
+        Query::Child(var, span) => type_child(alloc, var, span, gamma, decider.defs()),
         Query::Filter(from, test, span) => {
-            type_filter(alloc, from.get(), test, span.from, gamma, decider)
+            type_filter(alloc, from.get(), test, *span, gamma, decider)
         }
         Query::For(var, over, body, span) => {
             let step = Step {
-                place: span.from,
+                span: *span,
                 var: *var,
                 body: body.get(),
             };
@@ -89,16 +82,15 @@ pub(crate) fn type_of<D: Decider>(
 fn type_all<D: Decider>(
     alloc: Global,
     queries: &[Query],
-    place: u32,
+    span: Span,
     gamma: &mut Gamma,
     decider: &mut D,
 ) -> Result<Measured, KindFault>
     requires ready { IsReady (D.definitions decider.old) gamma.old }
-    ensures answer { IsAnswer (D.definitions decider.old) (Types (D.definitions decider.old) (of_query gamma.old (queries_of place queries.now))) result }
-    ensures gamma { gamma.new ≡ gamma.old }
-    ensures definitions { D.definitions decider.new ≡ D.definitions decider.old }
-    ensures keeps { D.keeps decider.new ≡ D.keeps decider.old }
-    ensures still { (p : TypePair) → Contains (D.known decider.old) p → Contains (D.known decider.new) p }
+    ensures answer { let defs = D.definitions decider.old in
+        IsAnswer defs (Types defs (of_query gamma.old (queries_of span queries.now))) result }
+    ensures left { Leaves D.definitions D.keeps D.known decider.old decider.new
+        gamma.old gamma.new }
 {
     let Some((last, others)) = queries.split_last() else {
         return Ok(nothing());
@@ -106,22 +98,22 @@ fn type_all<D: Decider>(
     let mut outcome = type_of(alloc, last, gamma, decider);
     for query in others.iter().rev() {
         let first = type_of(alloc, query, gamma, decider);
-        outcome = before(alloc, place, first, outcome);
+        outcome = before(alloc, span, first, outcome);
     }
     outcome
 }
 
 fn before(
     alloc: Global,
-    place: u32,
+    span: Span,
     first: Result<Measured, KindFault>,
     others: Result<Measured, KindFault>,
 ) -> Result<Measured, KindFault>
-    ensures { IsAfter place first others result }
+    ensures { IsAfter span first others result }
 {
     let first = first?;
     let others = others?;
-    in_sequence(alloc, place, first, others)
+    in_sequence(alloc, span.from, first, others)
 }
 
 #[cycle(typing)]
@@ -129,19 +121,19 @@ fn type_element<D: Decider>(
     alloc: Global,
     content: &Query,
     label: Name,
-    place: u32,
+    span: Span,
     gamma: &mut Gamma,
     decider: &mut D,
 ) -> Result<Measured, KindFault>
     requires ready { IsReady (D.definitions decider.old) gamma.old }
-    ensures answer { IsAnswer (D.definitions decider.old) (Types (D.definitions decider.old) (of_query gamma.old (element place label (query_of content.now)))) result }
-    ensures gamma { gamma.new ≡ gamma.old }
-    ensures definitions { D.definitions decider.new ≡ D.definitions decider.old }
-    ensures keeps { D.keeps decider.new ≡ D.keeps decider.old }
-    ensures still { (p : TypePair) → Contains (D.known decider.old) p → Contains (D.known decider.new) p }
+    ensures answer { let defs = D.definitions decider.old in
+        IsAnswer defs
+        (Types defs (of_query gamma.old (element span label (query_of content.now)))) result }
+    ensures left { Leaves D.definitions D.keeps D.known decider.old decider.new
+        gamma.old gamma.new }
 {
     let content = type_of(alloc, content, gamma, decider)?;
-    one_element(alloc, place, label, content)
+    one_element(alloc, span.from, label, content)
 }
 
 #[cycle(typing)]
@@ -154,11 +146,12 @@ fn type_binding<D: Decider>(
     decider: &mut D,
 ) -> Result<Measured, KindFault>
     requires ready { IsReady (D.definitions decider.old) gamma.old }
-    ensures answer { (at : ℕ) → IsAnswer (D.definitions decider.old) (Types (D.definitions decider.old) (of_query gamma.old (binding at var.now (query_of bound.now) (query_of body.now)))) result }
-    ensures gamma { gamma.new ≡ gamma.old }
-    ensures definitions { D.definitions decider.new ≡ D.definitions decider.old }
-    ensures keeps { D.keeps decider.new ≡ D.keeps decider.old }
-    ensures still { (p : TypePair) → Contains (D.known decider.old) p → Contains (D.known decider.new) p }
+    ensures answer { let defs = D.definitions decider.old in
+        (at : Place) → IsAnswer defs
+        (Types defs (of_query gamma.old
+        (binding at var.now (query_of bound.now) (query_of body.now)))) result }
+    ensures left { Leaves D.definitions D.keeps D.known decider.old decider.new
+        gamma.old gamma.new }
 {
     let bound = type_of(alloc, bound, gamma, decider)?;
     type_under(alloc, body, var, bound.ty, gamma, decider)
@@ -176,11 +169,11 @@ fn type_under<D: Decider>(
 ) -> Result<Measured, KindFault>
     requires ready { IsReady (D.definitions decider.old) gamma.old }
     requires usable { IsUsable (D.definitions decider.old) (ty_of ty) }
-    ensures answer { IsAnswer (D.definitions decider.old) (Types (D.definitions decider.old) (of_query ((var.now, ty_of ty) ∷ gamma.old) (query_of body.now))) result }
-    ensures gamma { gamma.new ≡ gamma.old }
-    ensures definitions { D.definitions decider.new ≡ D.definitions decider.old }
-    ensures keeps { D.keeps decider.new ≡ D.keeps decider.old }
-    ensures still { (p : TypePair) → Contains (D.known decider.old) p → Contains (D.known decider.new) p }
+    ensures answer { let defs = D.definitions decider.old in
+        IsAnswer defs
+        (Types defs (of_query ((var.now, ty_of ty) ∷ gamma.old) (query_of body.now))) result }
+    ensures left { Leaves D.definitions D.keeps D.known decider.old decider.new
+        gamma.old gamma.new }
 {
     gamma.bind(Param { var: *var, ty })?;
     let outcome = type_of(alloc, body, gamma, decider);
@@ -194,21 +187,22 @@ fn type_choice<D: Decider>(
     condition: &Query,
     yes: &Query,
     no: &Query,
-    place: u32,
+    span: Span,
     gamma: &mut Gamma,
     decider: &mut D,
 ) -> Result<Measured, KindFault>
     requires ready { IsReady (D.definitions decider.old) gamma.old }
-    ensures answer { IsAnswer (D.definitions decider.old) (Types (D.definitions decider.old) (of_query gamma.old (choice place (query_of condition.now) (query_of yes.now) (query_of no.now)))) result }
-    ensures gamma { gamma.new ≡ gamma.old }
-    ensures definitions { D.definitions decider.new ≡ D.definitions decider.old }
-    ensures keeps { D.keeps decider.new ≡ D.keeps decider.old }
-    ensures still { (p : TypePair) → Contains (D.known decider.old) p → Contains (D.known decider.new) p }
+    ensures answer { let defs = D.definitions decider.old in
+        IsAnswer defs
+        (Types defs (of_query gamma.old
+        (choice span (query_of condition.now) (query_of yes.now) (query_of no.now)))) result }
+    ensures left { Leaves D.definitions D.keeps D.known decider.old decider.new
+        gamma.old gamma.new }
 {
     type_condition(alloc, condition, gamma, decider)?;
     let yes = type_of(alloc, yes, gamma, decider)?;
     let no = type_of(alloc, no, gamma, decider)?;
-    either(alloc, place, yes, no)
+    either(alloc, span.from, yes, no)
 }
 
 #[cycle(typing)]
@@ -219,12 +213,12 @@ fn type_condition<D: Decider>(
     decider: &mut D,
 ) -> Result<(), KindFault>
     requires ready { IsReady (D.definitions decider.old) gamma.old }
-    ensures answer { OnOk result (IsTruth (D.definitions decider.old) gamma.old (query_of condition.now)) }
-    ensures fault { IfErr result (IsFault (D.definitions decider.old) (InAnyChoice (D.definitions decider.old) gamma.old (query_of condition.now))) }
-    ensures gamma { gamma.new ≡ gamma.old }
-    ensures definitions { D.definitions decider.new ≡ D.definitions decider.old }
-    ensures keeps { D.keeps decider.new ≡ D.keeps decider.old }
-    ensures still { (p : TypePair) → Contains (D.known decider.old) p → Contains (D.known decider.new) p }
+    ensures answer { OnOk result
+        (IsTruth (D.definitions decider.old) gamma.old (query_of condition.now)) }
+    ensures fault { let defs = D.definitions decider.old in
+        IfErr result (IsFault defs (InAnyChoice defs gamma.old (query_of condition.now))) }
+    ensures left { Leaves D.definitions D.keeps D.known decider.old decider.new
+        gamma.old gamma.new }
 {
     let found = type_of(alloc, condition, gamma, decider)?;
     match decider.included(alloc, &found.ty, &Ty::Atom(AtomKind::Bool))? {
@@ -245,11 +239,12 @@ fn type_alike<D: Decider>(
     decider: &mut D,
 ) -> Result<Measured, KindFault>
     requires ready { IsReady (D.definitions decider.old) gamma.old }
-    ensures answer { (at : ℕ) → IsAnswer (D.definitions decider.old) (Types (D.definitions decider.old) (of_query gamma.old (alike at (query_of left.now) (query_of right.now)))) result }
-    ensures gamma { gamma.new ≡ gamma.old }
-    ensures definitions { D.definitions decider.new ≡ D.definitions decider.old }
-    ensures keeps { D.keeps decider.new ≡ D.keeps decider.old }
-    ensures still { (p : TypePair) → Contains (D.known decider.old) p → Contains (D.known decider.new) p }
+    ensures answer { let defs = D.definitions decider.old in
+        (at : Place) → IsAnswer defs
+        (Types defs (of_query gamma.old
+        (alike at (query_of left.now) (query_of right.now)))) result }
+    ensures left { Leaves D.definitions D.keeps D.known decider.old decider.new
+        gamma.old gamma.new }
 {
     let _left = type_of(alloc, left, gamma, decider)?;
     let _right = type_of(alloc, right, gamma, decider)?;
@@ -261,19 +256,19 @@ fn type_filter<D: Decider>(
     alloc: Global,
     from: &Query,
     test: &Test,
-    place: u32,
+    span: Span,
     gamma: &mut Gamma,
     decider: &mut D,
 ) -> Result<Measured, KindFault>
     requires ready { IsReady (D.definitions decider.old) gamma.old }
-    ensures answer { IsAnswer (D.definitions decider.old) (Types (D.definitions decider.old) (of_query gamma.old (filter place (query_of from.now) test.now))) result }
-    ensures gamma { gamma.new ≡ gamma.old }
-    ensures definitions { D.definitions decider.new ≡ D.definitions decider.old }
-    ensures keeps { D.keeps decider.new ≡ D.keeps decider.old }
-    ensures still { (p : TypePair) → Contains (D.known decider.old) p → Contains (D.known decider.new) p }
+    ensures answer { let defs = D.definitions decider.old in
+        IsAnswer defs
+        (Types defs (of_query gamma.old (filter span (query_of from.now) test.now))) result }
+    ensures left { Leaves D.definitions D.keeps D.known decider.old decider.new
+        gamma.old gamma.new }
 {
     let from = type_of(alloc, from, gamma, decider)?;
-    filtered(alloc, &from.ty, test, place, decider.defs())
+    filtered(alloc, from.ty, test, span.from, decider.defs())
 }
 
 #[cycle(typing)]
@@ -285,56 +280,44 @@ fn type_each<D: Decider>(
     decider: &mut D,
 ) -> Result<Measured, KindFault>
     requires ready { IsReady (D.definitions decider.old) gamma.old }
-    ensures answer { IsAnswer (D.definitions decider.old) (Types (D.definitions decider.old) (of_query gamma.old (each step.now.place step.now.var (query_of over.now) (query_of step.now.body.now)))) result }
-    ensures gamma { gamma.new ≡ gamma.old }
-    ensures definitions { D.definitions decider.new ≡ D.definitions decider.old }
-    ensures keeps { D.keeps decider.new ≡ D.keeps decider.old }
-    ensures still { (p : TypePair) → Contains (D.known decider.old) p → Contains (D.known decider.new) p }
+    ensures answer { let defs = D.definitions decider.old in
+        IsAnswer defs
+        (Types defs (of_query gamma.old
+        (each step.now.span step.now.var (query_of over.now) (query_of step.now.body.now))))
+        result }
+    ensures left { Leaves D.definitions D.keeps D.known decider.old decider.new
+        gamma.old gamma.new }
 {
     let over = type_of(alloc, over, gamma, decider)?;
-    type_trees(alloc, &over.ty, step, gamma, decider)
+    type_trees(alloc, over.ty, step, gamma, decider)
 }
 
 // What a type becomes by a step at each of its trees.
 #[cycle(typing)]
 fn type_trees<D: Decider>(
     alloc: Global,
-    ty: &Ty,
+    ty: Ty,
     step: &Step<'_>,
     gamma: &mut Gamma,
     decider: &mut D,
 ) -> Result<Measured, KindFault>
     requires ready { IsReady (D.definitions decider.old) gamma.old }
-    requires usable { IsUsable (D.definitions decider.old) (ty_of ty.now) }
-    ensures answer { IsAnswer (D.definitions decider.old) (Types (D.definitions decider.old) (of_map step.now.place (returning gamma.old step.now.var (query_of step.now.body.now)) (ty_of ty.now))) result }
-    ensures gamma { gamma.new ≡ gamma.old }
-    ensures definitions { D.definitions decider.new ≡ D.definitions decider.old }
-    ensures keeps { D.keeps decider.new ≡ D.keeps decider.old }
-    ensures still { (p : TypePair) → Contains (D.known decider.old) p → Contains (D.known decider.new) p }
+    requires usable { IsUsable (D.definitions decider.old) (ty_of ty) }
+    ensures answer { let defs = D.definitions decider.old in
+        let returned = returning gamma.old step.now.var (query_of step.now.body.now) in
+        IsAnswer defs (Types defs (of_map step.now.span.from returned (ty_of ty))) result }
+    ensures left { Leaves D.definitions D.keeps D.known decider.old decider.new
+        gamma.old gamma.new }
 {
-    match ty {
-        Ty::Empty => Ok(nothing()),
-        Ty::Atom(_) | Ty::Elem(_, _) => {
-            let tree = copy_of(alloc, ty)?;
-            type_under(alloc, step.body, &step.var, tree, gamma, decider)
-        }
-        Ty::Seq(left, right) => {
-            let left = type_trees(alloc, left.get(), step, gamma, decider)?;
-            let right = type_trees(alloc, right.get(), step, gamma, decider)?;
-            in_sequence(alloc, step.place, left, right)
-        }
-        Ty::Alt(left, right) => {
-            let left = type_trees(alloc, left.get(), step, gamma, decider)?;
-            let right = type_trees(alloc, right.get(), step, gamma, decider)?;
-            either(alloc, step.place, left, right)
-        }
-        Ty::Star(inner) => {
-            let inner = type_trees(alloc, inner.get(), step, gamma, decider)?;
-            repeated(alloc, step.place, inner)
-        }
-        Ty::Named(index) => {
-            let body = copy_of(alloc, decider.defs().unfold(*index))?;
-            type_trees(alloc, &body, step, gamma, decider)
-        }
+    let mut walk = Walk::new(alloc, step.span.from);
+    let mut turn = walk.enter(ty, decider.defs())?;
+    loop {
+        turn = match turn {
+            Turn::Over(made) => return Ok(made),
+            Turn::At(tree) => {
+                let made = type_under(alloc, step.body, &step.var, tree, gamma, decider)?;
+                walk.put(made, decider.defs())?
+            }
+        };
     }
 }

@@ -1,10 +1,10 @@
 // The type of a query.
-ghost use Rattle.std.specs.Prelude.{◌≡◌, Contains, IfOk, IfErr};
+ghost use Rattle.std.specs.Prelude.{IfOk, IfErr};
 ghost use Rattle.flux_types.specs.Read.{ty_of};
-ghost use Rattle.flux_types.specs.Verdicts.{TypePair};
 ghost use Rattle.flux_calculus.specs.Typing.{Types, of_query, typed};
 ghost use Rattle.flux_query.specs.Read.{query_of};
-ghost use Rattle.flux_querytype.specs.Faults.{IsUsable, AreUsable, IsQueryFault};
+ghost use Rattle.flux_core.specs.Faults.{IsUsable, AreUsable};
+ghost use Rattle.flux_querytype.specs.Answers.{Leaves, IsQueryFault};
 
 use crate::query::type_of;
 use flux_core::{Gamma, KindFault};
@@ -17,8 +17,11 @@ use std::alloc::Global;
 /// so is the type that is answered. A condition must be of a type that is included in `bool`; else
 /// the forest that is shown is a member of that type and not of `bool`.
 ///
-/// The time grows in step with the query and the types that it makes, each name unfolded wherever
-/// a step meets it, and with what the decider takes, which is asked once for each condition.
+/// It recurses by the nesting of the query alone: types are walked with a stack of their own, and
+/// names are followed in a loop; only the copy and the drop of a type recurse by its height, at
+/// most 500. The time grows in step with the query and the types that it makes, each name unfolded
+/// wherever a step meets it, and with what the decider takes, which is asked once for each
+/// condition.
 pub fn type_query<D: Decider>(
     alloc: Global,
     gamma: &mut Gamma,
@@ -26,16 +29,16 @@ pub fn type_query<D: Decider>(
     decider: &mut D,
 ) -> Result<Ty, KindFault>
     requires { AreUsable (D.definitions decider.old) gamma.old }
-    ensures typed { IfOk result (λ ty. Types (D.definitions decider.old) (of_query gamma.old (query_of query.now)) (typed (ty_of ty))) }
+    ensures typed { IfOk result (λ ty. Types (D.definitions decider.old)
+        (of_query gamma.old (query_of query.now)) (typed (ty_of ty))) }
     ensures usable { IfOk result (λ ty. IsUsable (D.definitions decider.old) (ty_of ty)) }
-    ensures fault { IfErr result (IsQueryFault (D.definitions decider.old) gamma.old (query_of query.now)) }
-    ensures gamma { gamma.new ≡ gamma.old }
-    ensures definitions { D.definitions decider.new ≡ D.definitions decider.old }
-    ensures keeps { D.keeps decider.new ≡ D.keeps decider.old }
-    ensures still { (p : TypePair) → Contains (D.known decider.old) p → Contains (D.known decider.new) p }
+    ensures fault { IfErr result
+        (IsQueryFault (D.definitions decider.old) gamma.old (query_of query.now)) }
+    ensures left { Leaves D.definitions D.keeps D.known decider.old decider.new
+        gamma.old gamma.new }
 {
     // the call is made for what it promises: the definitions are good
-    let _count = decider.defs().len();
+    let _defs = decider.defs();
     let made = type_of(alloc, query, gamma, decider)?;
     Ok(made.ty)
 }

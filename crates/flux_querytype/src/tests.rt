@@ -1,13 +1,15 @@
 // What no clause says: that calls succeed, with types and places worked out by hand.
-ghost use Rattle.std.specs.Prelude.{◌≡◌, ◌↔◌, [], false, IsTrue, IfOk, OnOk};
+ghost use Rattle.std.specs.Prelude.{◌≡◌, ◌↔◌, ◌+◌, ◌<◌, ◌≤◌, [], false, length, IsTrue, IfOk, OnOk};
 ghost use Rattle.flux_atom.specs.declared.atom.Atom.TheVariants.{Text as Words};
 ghost use Rattle.flux_trees.specs.Hedge.{leaf, nil};
 ghost use Rattle.flux_trees.specs.Draft.{done};
 ghost use Rattle.flux_schema.specs.Ty.{atom, NamesBelow};
+ghost use Rattle.flux_schema.specs.Definitions.{Definitions};
+ghost use Rattle.flux_schema.specs.Member.{Included};
 ghost use Rattle.flux_types.specs.Read.{ty_of};
 ghost use Rattle.flux_types.specs.Kept.{AreKept};
 ghost use Rattle.flux_types.specs.Verdicts.{IsVerdict};
-ghost use Rattle.flux_querytype.specs.Faults.{IsUsable, AreUsable};
+ghost use Rattle.flux_core.specs.Faults.{IsUsable, AreUsable};
 
 use crate::type_query;
 use flux_atom::{Atom, AtomKind, Boxed, Items, Name, Names, Word, is_name};
@@ -15,12 +17,12 @@ use flux_calculus::{Span, Test, Var};
 use flux_core::{Gamma, KindFault, Param};
 use flux_forest::{Forest, Head};
 use flux_query::Query;
-use flux_types::{Decider, Defs, Draft, Ty, Verdict, height, size, tidy};
+use flux_types::{Decider, Defs, Draft, Ty, Verdict, copy_of, height, size, tidy};
 use std::alloc::{AllocError, Global};
 use std::process::Abort;
 use std::test::Fail;
 
-// Decides only that `string` isn't included in `bool`.
+// Decides only that `bool` is included in `bool`, and that `string` isn't.
 #[derive(Drop)]
 struct Texts<'d> {
     defs: &'d Defs,
@@ -36,10 +38,21 @@ fn is_atom(ty: &Ty, kind: AtomKind) -> bool
     }
 }
 
+// Whether both types are `bool`.
+fn are_truths(left: &Ty, right: &Ty) -> bool
+    ensures { (defs : Definitions) → IsTrue result →
+        Included defs (ty_of left.now) (ty_of right.now) }
+{
+    is_atom(left, AtomKind::Bool) && is_atom(right, AtomKind::Bool)
+}
+
 // A text, where the types are `string` and `bool`.
 fn verdict(alloc: Global, defs: &Defs, left: &Ty, right: &Ty) -> Result<Verdict, AllocError>
     ensures { IfOk result (IsVerdict defs.now (ty_of left.now) (ty_of right.now)) }
 {
+    if are_truths(left, right) {
+        return Ok(Verdict::Yes);
+    }
     if !is_atom(left, AtomKind::Text) || !is_atom(right, AtomKind::Bool) {
         return Err(AllocError);
     }
@@ -55,7 +68,7 @@ impl Decider for Texts<'_> {
     ghost known = { λ _. [] };
 
     fn defs(&self) -> &Defs {
-        self.defs
+        self.defs.as_kept()
     }
 
     fn included(&mut self, alloc: Global, left: &Ty, right: &Ty) -> Result<Verdict, AllocError> {
@@ -428,4 +441,396 @@ fn a_step_at_a_recursive_name(rt: HostRuntime) -> Result<(), Fail> {
     let wanted = star(alloc, Ty::Named(0))?;
     assert_type(&rt, &outcome, &wanted);
     Ok(())
+}
+
+// ---- a table
+
+// Types in prefix notation.
+#[derive(Clone, Copy)]
+enum Sign {
+    Nothing,
+    Kind(AtomKind),
+    Name(u32),
+    Tree(Name),
+    Star,
+    Seq,
+    Alt,
+}
+
+const TEXT: Sign = Sign::Kind(AtomKind::Text);
+
+const TRUTH: Sign = Sign::Kind(AtomKind::Bool);
+
+fn one(alloc: Global, sign: Sign, parts: &mut Vec<Ty>) -> Result<Ty, AllocError> {
+    let part = parts.pop().unwrap_or(Ty::Empty);
+    match sign {
+        Sign::Tree(name) => element(alloc, name, part),
+        Sign::Star => star(alloc, part),
+        _ => Ok(part),
+    }
+}
+
+fn two(alloc: Global, sign: Sign, parts: &mut Vec<Ty>) -> Result<Ty, AllocError> {
+    let left = parts.pop().unwrap_or(Ty::Empty);
+    let right = parts.pop().unwrap_or(Ty::Empty);
+    match sign {
+        Sign::Seq => seq(alloc, left, right),
+        _ => Ok(Ty::Alt(Boxed::new(alloc, left)?, Boxed::new(alloc, right)?)),
+    }
+}
+
+fn ty(alloc: Global, signs: &[Sign]) -> Result<Ty, AllocError> {
+    let mut parts = Vec::new(alloc);
+    for sign in signs.iter().rev() {
+        let made = match *sign {
+            Sign::Nothing => Ty::Empty,
+            Sign::Kind(kind) => Ty::Atom(kind),
+            Sign::Name(index) => Ty::Named(index),
+            Sign::Tree(_) | Sign::Star => one(alloc, *sign, &mut parts)?,
+            Sign::Seq | Sign::Alt => two(alloc, *sign, &mut parts)?,
+        };
+        parts.push(made)?;
+    }
+    Ok(parts.pop().unwrap_or(Ty::Empty))
+}
+
+// Queries in prefix notation, over the variables `Made(0)`, which is bound, and `Made(1)`. A text
+// stands at 7, all else at 0.
+#[derive(Clone, Copy)]
+enum Ask {
+    None,
+    True,
+    Text,
+    Seen(u32),
+    Child(u32),
+    If,
+    Same,
+    For,
+    Filter(Test),
+}
+
+fn taken(alloc: Global, parts: &mut Vec<Query>) -> Result<Boxed<Query>, AllocError> {
+    let part = parts.pop();
+    Boxed::new(alloc, part.unwrap_or(Query::Lit(Atom::Bool(true), at(0))))
+}
+
+fn pair(alloc: Global, ask: Ask, parts: &mut Vec<Query>) -> Result<Query, AllocError> {
+    let first = taken(alloc, parts)?;
+    let second = taken(alloc, parts)?;
+    match ask {
+        Ask::Same => Ok(Query::Same(first, second, at(0))),
+        _ => Ok(Query::For(Var::Made(1), first, second, at(0))),
+    }
+}
+
+fn chosen(alloc: Global, parts: &mut Vec<Query>) -> Result<Query, AllocError> {
+    let condition = taken(alloc, parts)?;
+    let yes = taken(alloc, parts)?;
+    let no = taken(alloc, parts)?;
+    Ok(Query::If(condition, yes, no, at(0)))
+}
+
+fn asked(alloc: Global, ask: Ask, parts: &mut Vec<Query>) -> Result<Query, AllocError> {
+    match ask {
+        Ask::None => Ok(Query::Concat(Items::new(alloc), at(0))),
+        Ask::True => Ok(Query::Lit(Atom::Bool(true), at(0))),
+        Ask::Text => text(alloc, 7),
+        Ask::Seen(index) => Ok(seen(Var::Made(index), 0)),
+        Ask::Child(index) => Ok(Query::Child(Var::Made(index), at(0))),
+        Ask::If => chosen(alloc, parts),
+        Ask::Same | Ask::For => pair(alloc, ask, parts),
+        Ask::Filter(test) => Ok(Query::Filter(taken(alloc, parts)?, test, at(0))),
+    }
+}
+
+fn query(alloc: Global, asks: &[Ask]) -> Result<Query, AllocError> {
+    let mut parts = Vec::new(alloc);
+    for ask in asks.iter().rev() {
+        let made = asked(alloc, *ask, &mut parts)?;
+        parts.push(made)?;
+    }
+    let made = parts.pop();
+    Ok(made.unwrap_or(Query::Lit(Atom::Bool(true), at(0))))
+}
+
+// What a query is typed with where the variable `Made(0)` is of a type.
+fn outcome(
+    rt: &impl Abort,
+    alloc: Global,
+    defs: &Defs,
+    bound: &[Sign],
+    asks: &[Ask],
+) -> Result<Result<Ty, KindFault>, Fail> {
+    let bound = ty(alloc, bound)?;
+    let query = query(alloc, asks)?;
+    let mut gamma = none_bound(alloc, defs);
+    bind(rt, &mut gamma, bound, defs)?;
+    Ok(typed(alloc, &mut gamma, &query, defs))
+}
+
+fn assert_typed(
+    rt: &impl Abort,
+    alloc: Global,
+    defs: &Defs,
+    bound: &[Sign],
+    asks: &[Ask],
+    wanted: &[Sign],
+) -> Result<(), Fail> {
+    let outcome = outcome(rt, alloc, defs, bound, asks)?;
+    let wanted = ty(alloc, wanted)?;
+    assert_type(rt, &outcome, &wanted);
+    Ok(())
+}
+
+// X = bool
+#[tactic(auto, using(flux_types::proofs::KeptLaws::counts))]
+fn one_truth(rt: &impl Abort, alloc: Global, label: Name) -> Result<Defs, Fail> {
+    let mut draft = Draft::new(alloc);
+    let index = draft.declare(label)?;
+    let body = Ty::Atom(AtomKind::Bool);
+    assert!(rt; is_known(&body, 1));
+    assert!(rt; size(&body) <= 65_536 && height(&body) <= 500);
+    draft.define(index, body)?;
+    Ok(draft.close()?)
+}
+
+#[test]
+fn conditions(rt: HostRuntime) -> Result<(), Fail> {
+    let alloc = rt.alloc();
+    let defs = no_definitions(alloc)?;
+    let none = [Sign::Nothing];
+    let chosen = [Ask::If, Ask::True, Ask::Text, Ask::True];
+    assert_typed(&rt, alloc, &defs, &none, &chosen, &[Sign::Alt, TEXT, TRUTH])?;
+    let same = [Ask::Same, Ask::Text, Ask::None];
+    assert_typed(&rt, alloc, &defs, &none, &same, &[TRUTH])?;
+    assert_typed(&rt, alloc, &defs, &none, &[Ask::None], &none)?;
+    let refused = outcome(
+        &rt,
+        alloc,
+        &defs,
+        &none,
+        &[Ask::If, Ask::Text, Ask::None, Ask::None],
+    )?;
+    assert!(rt; shows_a_text(&refused, 7));
+    Ok(())
+}
+
+#[test]
+fn loops(rt: HostRuntime) -> Result<(), Fail> {
+    let alloc = rt.alloc();
+    let mut names = Names::new(alloc);
+    let x = name(&rt, &mut names, "X")?;
+    let defs = one_truth(&rt, alloc, x)?;
+    let each = [Ask::For, Ask::Seen(0), Ask::Seen(1)];
+    let row = [Sign::Seq, TRUTH, TEXT];
+    assert_typed(&rt, alloc, &defs, &row, &each, &row)?;
+    let either = [Sign::Alt, TEXT, TRUTH];
+    assert_typed(&rt, alloc, &defs, &either, &each, &either)?;
+    assert_typed(&rt, alloc, &defs, &[Sign::Name(0)], &each, &[TRUTH])?;
+    assert_typed(&rt, alloc, &defs, &[Sign::Nothing], &each, &[Sign::Nothing])?;
+    let empty = [Ask::Child(0)];
+    assert_typed(
+        &rt,
+        alloc,
+        &defs,
+        &[Sign::Name(0)],
+        &empty,
+        &[Sign::Nothing],
+    )
+}
+
+#[test]
+fn filters(rt: HostRuntime) -> Result<(), Fail> {
+    let alloc = rt.alloc();
+    let mut names = Names::new(alloc);
+    let a = name(&rt, &mut names, "a")?;
+    let defs = one_truth(&rt, alloc, a)?;
+    // a[],(string|X)*
+    let mixed = [
+        Sign::Seq,
+        Sign::Tree(a),
+        Sign::Nothing,
+        Sign::Star,
+        Sign::Alt,
+        TEXT,
+        Sign::Name(0),
+    ];
+    let any = [Ask::Filter(Test::AnyElement), Ask::Seen(0)];
+    let nothing = [
+        Sign::Seq,
+        Sign::Tree(a),
+        Sign::Nothing,
+        Sign::Star,
+        Sign::Alt,
+        Sign::Nothing,
+        Sign::Nothing,
+    ];
+    assert_typed(&rt, alloc, &defs, &mixed, &any, &nothing)?;
+    let texts = [Ask::Filter(Test::OfText), Ask::Seen(0)];
+    let wanted = [
+        Sign::Seq,
+        Sign::Nothing,
+        Sign::Star,
+        Sign::Alt,
+        TEXT,
+        Sign::Nothing,
+    ];
+    assert_typed(&rt, alloc, &defs, &mixed, &texts, &wanted)?;
+    let truths = [Ask::Filter(Test::OfBool), Ask::Seen(0)];
+    let wanted = [
+        Sign::Seq,
+        Sign::Nothing,
+        Sign::Star,
+        Sign::Alt,
+        Sign::Nothing,
+        TRUTH,
+    ];
+    assert_typed(&rt, alloc, &defs, &mixed, &truths, &wanted)
+}
+
+// ---- deep and long
+
+// `count` literals, one behind the other.
+fn literals(alloc: Global, count: u32) -> Result<Query, AllocError> {
+    let mut queries = Items::new(alloc);
+    for _ in 0..count {
+        queries.push(Query::Lit(Atom::Bool(true), at(1)))?;
+    }
+    Ok(Query::Concat(queries, at(5)))
+}
+
+#[test]
+fn many_queries(rt: HostRuntime) -> Result<(), Fail> {
+    let alloc = rt.alloc();
+    let defs = no_definitions(alloc)?;
+    let mut gamma = none_bound(alloc, &defs);
+    match typed(alloc, &mut gamma, &literals(alloc, 400)?, &defs) {
+        Ok(ty) => assert_eq!(rt; size(&ty), 799),
+        Err(_) => assert!(rt; false),
+    }
+    let mut gamma = none_bound(alloc, &defs);
+    let outcome = typed(alloc, &mut gamma, &literals(alloc, 20_000)?, &defs);
+    assert!(rt; matches!(outcome, Err(KindFault::TypeTooLarge { place: 5 })));
+    Ok(())
+}
+
+fn stars(alloc: Global, count: u32) -> Result<Ty, AllocError> {
+    let mut ty = Ty::Atom(AtomKind::Text);
+    for _ in 0..count {
+        ty = star(alloc, ty)?;
+    }
+    Ok(ty)
+}
+
+// `depth` loops over the variable `Made(0)`, each in the one before, the innermost at the place 0.
+fn nested_loops(alloc: Global, depth: u32) -> Result<Query, AllocError> {
+    let mut body = text(alloc, 99)?;
+    for place in 0..depth {
+        let over = Boxed::new(alloc, seen(Var::Made(0), 98))?;
+        body = Query::For(Var::Made(1), over, Boxed::new(alloc, body)?, at(place));
+    }
+    Ok(body)
+}
+
+#[test]
+fn loops_in_loops_over_a_high_type(rt: HostRuntime) -> Result<(), Fail> {
+    let alloc = rt.alloc();
+    let defs = no_definitions(alloc)?;
+    let mut gamma = none_bound(alloc, &defs);
+    bind(&rt, &mut gamma, stars(alloc, 490)?, &defs)?;
+    let outcome = typed(alloc, &mut gamma, &nested_loops(alloc, 190)?, &defs);
+    assert!(rt; matches!(outcome, Err(KindFault::TypeTooLarge { place: 1 })));
+    Ok(())
+}
+
+// A sequence of 2^10 texts.
+fn thousand_texts(alloc: Global) -> Result<Ty, AllocError> {
+    let mut ty = Ty::Atom(AtomKind::Text);
+    for _ in 0..10 {
+        let twice = copy_of(alloc, &ty)?;
+        ty = seq(alloc, ty, twice)?;
+    }
+    Ok(ty)
+}
+
+// for 1 in 0 return let 1 = 0 in true
+fn bound_in_a_loop(alloc: Global) -> Result<Query, AllocError> {
+    let truth = Query::Lit(Atom::Bool(true), at(0));
+    let body = binding(alloc, Var::Made(1), seen(Var::Made(0), 0), truth)?;
+    each(alloc, Var::Made(1), seen(Var::Made(0), 0), body)
+}
+
+#[test]
+fn a_binding_for_each_of_a_thousand_trees(rt: HostRuntime) -> Result<(), Fail> {
+    let alloc = rt.alloc();
+    let defs = no_definitions(alloc)?;
+    let mut gamma = none_bound(alloc, &defs);
+    bind(&rt, &mut gamma, thousand_texts(alloc)?, &defs)?;
+    match typed(alloc, &mut gamma, &bound_in_a_loop(alloc)?, &defs) {
+        Ok(ty) => assert_eq!(rt; size(&ty), 2_047),
+        Err(_) => assert!(rt; false),
+    }
+    Ok(())
+}
+
+const CHAIN: u32 = 20_000;
+
+#[tactic(auto, using(flux_types::proofs::KeptLaws::counts))]
+fn declare_many(rt: &impl Abort, alloc: Global, draft: &mut Draft, count: u32) -> Result<(), Fail>
+    requires new { draft.old ≡ [] }
+    requires few { count ≤ 100000 }
+    ensures { OnOk result (length draft.new ≡ count) }
+{
+    let mut names = Names::new(alloc);
+    for i in 0..count {
+        let text = format!(in alloc; "x{i}")?;
+        assert!(rt; is_name(&text) && names.len() < 100_000);
+        let label = names.intern(&text)?;
+        draft.declare(label)?;
+    }
+    Ok(())
+}
+
+#[tactic(auto, using(flux_types::proofs::KeptLaws::counts))]
+fn set(rt: &impl Abort, draft: &mut Draft, index: u32, body: Ty, count: u32) -> Result<(), Fail>
+    requires declared { length draft.old ≡ count }
+    requires within { index < count }
+    ensures { OnOk result (length draft.new ≡ count) }
+{
+    assert!(rt; is_known(&body, count));
+    assert!(rt; size(&body) <= 65_536 && height(&body) <= 500);
+    draft.define(index, body)?;
+    Ok(())
+}
+
+// Each name stands for the next one.
+fn chain(rt: &impl Abort, draft: &mut Draft, last: u32) -> Result<(), Fail>
+    requires few { last ≤ 100000 }
+    requires declared { length draft.old ≡ last + 1 }
+    ensures { OnOk result (length draft.new ≡ last + 1) }
+{
+    for i in 0..last {
+        set(rt, draft, i, Ty::Named(i + 1), last + 1)?;
+    }
+    Ok(())
+}
+
+// CHAIN names, each of which stands for the next one, and the last for `string`.
+fn chained(rt: &impl Abort, alloc: Global) -> Result<Defs, Fail> {
+    let mut draft = Draft::new(alloc);
+    declare_many(rt, alloc, &mut draft, CHAIN)?;
+    chain(rt, &mut draft, CHAIN - 1)?;
+    set(rt, &mut draft, CHAIN - 1, Ty::Atom(AtomKind::Text), CHAIN)?;
+    Ok(draft.close()?)
+}
+
+#[test]
+fn a_name_at_the_head_of_a_chain(rt: HostRuntime) -> Result<(), Fail> {
+    let alloc = rt.alloc();
+    let defs = chained(&rt, alloc)?;
+    let head = [Sign::Name(0)];
+    let each = [Ask::For, Ask::Seen(0), Ask::Seen(1)];
+    assert_typed(&rt, alloc, &defs, &head, &each, &[TEXT])?;
+    let texts = [Ask::Filter(Test::OfText), Ask::Seen(0)];
+    assert_typed(&rt, alloc, &defs, &head, &texts, &[TEXT])
 }

@@ -1,6 +1,6 @@
 -- Under good definitions the test of membership answers membership.
 use Rattle.std.proofs.Common.{◌≡◌, ◌⊎◌, ◌<◌, ◌≤◌, ◌+◌, ◌*◌, ℕ, zero, suc, Option, Some, None, Bool, true, false, ◌&&◌, ◌||◌, length, refl, sym, ap, subst, ◌∙◌, inl, inr, arith, suc-mul, add-mul, zero-mul}
-use Rattle.std.proofs.lemmas.Bool.{eqb-true, eq-eqb}
+use Rattle.std.proofs.lemmas.Bool.{eqb-true, eq-eqb, and_parts, and_from, or_cases, or_left, or_right}
 use Rattle.flux_atom.specs.declared.atom.AtomKind.{AtomKind}
 use Rattle.flux_atom.specs.Atom.{kind_of}
 use Rattle.flux_trees.specs.Hedge.{Plain, nil, elem, leaf, join}
@@ -11,26 +11,10 @@ use Rattle.flux_schema.specs.Definitions.{Definitions, body_of, StandsIn, IsGood
 use Rattle.flux_schema.specs.Member.{Member, in_empty, in_atom, in_element, in_seq, in_left, in_right, in_done, in_more, in_name}
 use Rattle.flux_schema.specs.Tidy.{same_kind}
 use Rattle.flux_schema.specs.Fits.{is_nil, is_atom, is_element, any_split, repeats, fits, body_fits, name_fits, MembershipComputes}
-use Rattle.flux_schema.proofs.SameLaws.{both_true, same_kind-eq, same_kind-same}
+use Rattle.flux_schema.proofs.SameLaws.{same_kind-eq, same_kind-same}
 use Rattle.flux_schema.proofs.Ranks.{rank_of, rank-falls, rank-bound}
 
 -- ---- tests
-
-either_true : (a b : Bool) → a || b ≡ true → (a ≡ true) ⊎ (b ≡ true)
-either_true true b e = inl refl
-either_true false b e = inr e
-
-left_true : (a b : Bool) → a ≡ true → a || b ≡ true
-left_true true b e = refl
-left_true false b e = cc
-
-right_true : (a b : Bool) → b ≡ true → a || b ≡ true
-right_true true b e = refl
-right_true false b e = e
-
-and_true : (a b : Bool) → a ≡ true → b ≡ true → a && b ≡ true
-and_true true b e f = f
-and_true false b e f = cc
 
 abbrev Split : (Plain → Plain → Bool) → Plain → Type 0
 Split p z = (v : Plain) × (w : Plain) × (join v w ≡ z) × (p v w ≡ true)
@@ -38,22 +22,22 @@ Split p z = (v : Plain) × (w : Plain) × (join v w ≡ z) × (p v w ≡ true)
 from_split : (p : Plain → Plain → Bool) (z : Plain) → any_split p z ≡ true → Split p z
 from_split p nil e = (nil, nil, refl, e)
 from_split p (elem n a c r) e =
-    elim (either_true (p nil (elem n a c r)) (any_split (λ v w. p (elem n a c v) w) r) e) [
+    elim (or_cases (p nil (elem n a c r)) (any_split (λ v w. p (elem n a c v) w) r) e) [
       | inl h ↦ (nil, elem n a c r, refl, h)
       | inr h ↦ let s = from_split (λ v w. p (elem n a c v) w) r h in (elem n a c s.0, s.1, ap (elem n a c) s.2, s.3)
     ]
 from_split p (leaf n x r) e =
-    elim (either_true (p nil (leaf n x r)) (any_split (λ v w. p (leaf n x v) w) r) e) [
+    elim (or_cases (p nil (leaf n x r)) (any_split (λ v w. p (leaf n x v) w) r) e) [
       | inl h ↦ (nil, leaf n x r, refl, h)
       | inr h ↦ let s = from_split (λ v w. p (leaf n x v) w) r h in (leaf n x s.0, s.1, ap (leaf n x) s.2, s.3)
     ]
 
 split_joined : (p : Plain → Plain → Bool) (v w : Plain) → p v w ≡ true → any_split p (join v w) ≡ true
 split_joined p nil nil h = h
-split_joined p nil (elem n a c r) h = left_true _ _ h
-split_joined p nil (leaf n x r) h = left_true _ _ h
-split_joined p (elem n a c v) w h = right_true _ _ (split_joined (λ v w. p (elem n a c v) w) v w h)
-split_joined p (leaf n x v) w h = right_true _ _ (split_joined (λ v w. p (leaf n x v) w) v w h)
+split_joined p nil (elem n a c r) h = or_left _ _ h
+split_joined p nil (leaf n x r) h = or_left _ _ h
+split_joined p (elem n a c v) w h = or_right _ _ (split_joined (λ v w. p (elem n a c v) w) v w h)
+split_joined p (leaf n x v) w h = or_right _ _ (split_joined (λ v w. p (leaf n x v) w) v w h)
 
 to_split : (p : Plain → Plain → Bool) (v w z : Plain) → join v w ≡ z → p v w ≡ true → any_split p z ≡ true
 to_split p v w z e h = subst (λ y. any_split p y ≡ true) e (split_joined p v w h)
@@ -76,7 +60,7 @@ module _ (defs : Definitions) where
   element-sound : (n : ℕ) (t : Ty) (p : Plain → Bool) → ((v : Plain) → p v ≡ true → Member defs v t) → (z : Plain) → is_element n p z ≡ true → Member defs z (element n t)
   element-sound n t p f nil e = cc
   element-sound n t p f (elem a m v nil) e =
-      let b = both_true _ _ e in
+      let b = and_parts _ _ e in
       subst (λ l. Member defs (elem tt l v nil) (element n t)) (sym (eqb-true m n b.0)) (in_element n (f v b.1))
   element-sound n t p f (elem a m v (elem b l c r)) e = cc
   element-sound n t p f (elem a m v (leaf b x r)) e = cc
@@ -85,10 +69,10 @@ module _ (defs : Definitions) where
   repeats-sound : (t : Ty) (p : Plain → Bool) → ((v : Plain) → p v ≡ true → Member defs v t) → (n : ℕ) (z : Plain) → repeats p n z ≡ true → Member defs z (star t)
   repeats-sound t p f zero z e = subst (λ y. Member defs y (star t)) (sym (nil_is z e)) (in_done t)
   repeats-sound t p f (suc n) z e =
-      elim (either_true (is_nil z) (any_split (λ v w. p v && repeats p n w) z) e) [
+      elim (or_cases (is_nil z) (any_split (λ v w. p v && repeats p n w) z) e) [
         | inl h ↦ subst (λ y. Member defs y (star t)) (sym (nil_is z h)) (in_done t)
         | inr h ↦ let s = from_split (λ v w. p v && repeats p n w) z h in
-            let b = both_true _ _ s.3 in
+            let b = and_parts _ _ s.3 in
             in_more s.0 s.1 s.2 (f s.0 b.0) (repeats-sound t p f n s.1 b.1)
       ]
 
@@ -98,10 +82,10 @@ module _ (defs : Definitions) where
   fits-sound q f (element n t) z e = element-sound n t (fits q t) (fits-sound q f t) z e
   fits-sound q f (seq t u) z e =
       let s = from_split (λ v w. fits q t v && fits q u w) z e in
-      let b = both_true _ _ s.3 in
+      let b = and_parts _ _ s.3 in
       in_seq s.0 s.1 s.2 (fits-sound q f t s.0 b.0) (fits-sound q f u s.1 b.1)
   fits-sound q f (alt t u) z e =
-      elim (either_true (fits q t z) (fits q u z) e) [ inl h ↦ in_left u (fits-sound q f t z h) | inr h ↦ in_right t (fits-sound q f u z h) ]
+      elim (or_cases (fits q t z) (fits q u z) e) [ inl h ↦ in_left u (fits-sound q f t z h) | inr h ↦ in_right t (fits-sound q f u z h) ]
   fits-sound q f (star t) z e = repeats-sound t (fits q t) (fits-sound q f t) (hedge.size z) z e
   fits-sound q f (named x) z e = f x z e
 
@@ -117,21 +101,21 @@ module _ (defs : Definitions) where
 
 repeats-more : (p : Plain → Bool) (n m : ℕ) → n ≤ m → (z : Plain) → repeats p n z ≡ true → repeats p m z ≡ true
 repeats-more p zero zero h z e = e
-repeats-more p zero (suc m) h z e = left_true _ _ e
+repeats-more p zero (suc m) h z e = or_left _ _ e
 repeats-more p (suc n) zero h z e = absurd (omega (arith, h))
 repeats-more p (suc n) (suc m) h z e =
-    elim (either_true (is_nil z) (any_split (λ v w. p v && repeats p n w) z) e) [
-      | inl k ↦ left_true _ _ k
+    elim (or_cases (is_nil z) (any_split (λ v w. p v && repeats p n w) z) e) [
+      | inl k ↦ or_left _ _ k
       | inr k ↦ let s = from_split (λ v w. p v && repeats p n w) z k in
-          let b = both_true _ _ s.3 in
-          right_true (is_nil z) _ (to_split (λ v w. p v && repeats p m w) s.0 s.1 z s.2 (and_true _ _ b.0 (repeats-more p n m (omega (arith, h)) s.1 b.1)))
+          let b = and_parts _ _ s.3 in
+          or_right (is_nil z) _ (to_split (λ v w. p v && repeats p m w) s.0 s.1 z s.2 (and_from _ _ b.0 (repeats-more p n m (omega (arith, h)) s.1 b.1)))
     ]
 
 -- at least one tree first
 repeats_after : (p : Plain → Bool) (n : ℕ) (v w z : Plain) → join v w ≡ z → 1 ≤ hedge.size v → hedge.size z ≤ n → p v ≡ true → repeats p (hedge.size w) w ≡ true → repeats p n z ≡ true
 repeats_after p zero v w z j s h e f = absurd (omega (arith, size-join v w, ap hedge.size j))
 repeats_after p (suc n) v w z j s h e f =
-    right_true (is_nil z) _ (to_split (λ v w. p v && repeats p n w) v w z j (and_true _ _ e (repeats-more p (hedge.size w) n (omega (arith, size-join v w, ap hedge.size j)) w f)))
+    or_right (is_nil z) _ (to_split (λ v w. p v && repeats p n w) v w z j (and_from _ _ e (repeats-more p (hedge.size w) n (omega (arith, size-join v w, ap hedge.size j)) w f)))
 
 repeats_joined : (p : Plain → Bool) (v w z : Plain) → join v w ≡ z → p v ≡ true → repeats p (hedge.size w) w ≡ true → repeats p (hedge.size z) z ≡ true
 repeats_joined p nil w z j e f = subst (λ y. repeats p (hedge.size y) y ≡ true) j f
@@ -156,12 +140,12 @@ module _ (defs : Definitions) (rank : ℕ → ℕ) (r : ℕ) (falls : FallsAlong
   fits-complete in_empty k n b h = refl
   fits-complete (in_atom x is) k n b h = subst (λ l. same_kind (kind_of x) l ≡ true) is (same_kind-same (kind_of x))
   fits-complete (in_element m {v} {t} c) k n b h =
-      and_true _ _ (eq-eqb m m refl) (fits-complete c r n (λ y s. bound y) (omega (arith, suc-mul (hedge.size v + 0) r, add-mul (hedge.size v) 0 r, zero-mul r, h)))
+      and_from _ _ (eq-eqb m m refl) (fits-complete c r n (λ y s. bound y) (omega (arith, suc-mul (hedge.size v + 0) r, add-mul (hedge.size v) 0 r, zero-mul r, h)))
   fits-complete {z = z} (in_seq v w {t} {u} j c d) k n b h =
       let p = part_fits (hedge.size v) (hedge.size w) (hedge.size z) k n (ap hedge.size (sym j) ∙ size-join v w) h in
-      to_split (λ v w. fits (name_fits defs n) t v && fits (name_fits defs n) u w) v w z j (and_true _ _ (fits-complete c k n (λ y s. b y (inl s)) p.0) (fits-complete d k n (λ y s. b y (inr s)) p.1))
-  fits-complete (in_left u c) k n b h = left_true _ _ (fits-complete c k n (λ y s. b y (inl s)) h)
-  fits-complete (in_right t c) k n b h = right_true _ _ (fits-complete c k n (λ y s. b y (inr s)) h)
+      to_split (λ v w. fits (name_fits defs n) t v && fits (name_fits defs n) u w) v w z j (and_from _ _ (fits-complete c k n (λ y s. b y (inl s)) p.0) (fits-complete d k n (λ y s. b y (inr s)) p.1))
+  fits-complete (in_left u c) k n b h = or_left _ _ (fits-complete c k n (λ y s. b y (inl s)) h)
+  fits-complete (in_right t c) k n b h = or_right _ _ (fits-complete c k n (λ y s. b y (inr s)) h)
   fits-complete (in_done t) k n b h = refl
   fits-complete {z = z} (in_more v w {t} j c d) k n b h =
       let p = part_fits (hedge.size v) (hedge.size w) (hedge.size z) k n (ap hedge.size (sym j) ∙ size-join v w) h in

@@ -1,11 +1,9 @@
 -- What a type stands for is one thing, and can be found by unfolding names.
 use Rattle.std.proofs.Common.{◌≡◌, ◌∙◌, Some, ℕ, refl, sym, subst}
+use Rattle.std.proofs.lemmas.Option.{same_Some}
 use Rattle.flux_schema.specs.Ty.{Ty, empty, seq, alt, star, named}
 use Rattle.flux_schema.specs.Definitions.{Definitions, body_of}
 use Rattle.flux_schema.specs.Single.{Single, of_atom, of_element, of_name, IsNotSingle}
-
-some_is : {A : Type 0} (x y : A) → Some x ≡ Some y → x ≡ y
-some_is x y e = cc
 
 from_name : {defs : Definitions} {x : ℕ} {s : Ty} → Single defs (named x) s → (t : Ty) × (body_of defs x ≡ Some t) × Single defs t s
 from_name (of_name x {t} e h) = (t, e, h)
@@ -16,10 +14,10 @@ single-only (of_atom k) (of_atom _) = refl
 single-only (of_element n t) (of_element _ _) = refl
 single-only {defs = defs} {s' = s'} (of_name x {t} e h) k =
     let p = from_name k in
-    single-only h (subst (λ u. Single defs u s') (some_is p.0 t (sym p.1 ∙ e)) p.2)
+    single-only h (subst (λ u. Single defs u s') (same_Some p.0 t (sym p.1 ∙ e)) p.2)
 
 -- a name and its body stand for the same
 pub single-unfolded : (defs : Definitions) (x : ℕ) (t s : Ty) → body_of defs x ≡ Some t → Single defs (named x) s → Single defs t s
 single-unfolded defs x t s e h =
     let p = from_name h in
-    subst (λ u. Single defs u s) (some_is p.0 t (sym p.1 ∙ e)) p.2
+    subst (λ u. Single defs u s) (same_Some p.0 t (sym p.1 ∙ e)) p.2

@@ -1,5 +1,6 @@
 -- Names are located as they are added.
 use Rattle.std.proofs.Common.{◌≡◌, ◌⊎◌, ℕ, zero, suc, ◌<◌, List, [], ◌∷◌, ◌++◌, length, Option, Some, None, slice_get, refl, sym, ap, ◌∙◌, inl, inr, arith}
+use Rattle.std.proofs.lemmas.Option.{same_Some}
 use Rattle.std.proofs.Math.ListN.{set}
 use Rattle.flux_types.specs.Indices.{index_in, Locates}
 use Rattle.flux_types.proofs.KeptLaws.{get-push}
@@ -31,9 +32,6 @@ same_or_not zero (suc j) = inr (λ e. omega (arith, e))
 same_or_not (suc i) zero = inr (λ e. omega (arith, e))
 same_or_not (suc i) (suc j) = elim (same_or_not i j) [ inl e ↦ inl (ap suc e) | inr ne ↦ inr (λ e. ne (omega (arith, e))) ]
 
-some_is : (x y : ℕ) → Some x ≡ Some y → x ≡ y
-some_is x y e = cc
-
 get_front : (ns : List ℕ) (n x m : ℕ) → slice_get ns x ≡ Some m → slice_get (ns ++ n ∷ []) x ≡ Some m
 get_front [] n x m e = cc
 get_front (k ∷ ns) n zero m e = e
@@ -49,7 +47,7 @@ locates-push ps qs ns n l fresh here others m x = (forth (same_or_not m n), back
   where
     forth : (m ≡ n) ⊎ (m ≡ n → ⊥) → index_in qs m ≡ Some x → slice_get (ns ++ n ∷ []) x ≡ Some m
     forth (inl e) h =
-        let x_is : length ns ≡ x = some_is (length ns) x (sym here ∙ ap (index_in qs) (sym e) ∙ h) in
+        let x_is : length ns ≡ x = same_Some (length ns) x (sym here ∙ ap (index_in qs) (sym e) ∙ h) in
         ap (slice_get (ns ++ n ∷ [])) (sym x_is) ∙ get_last ns n ∙ ap Some (sym e)
     forth (inr ne) h = get_front ns n x m ((l m x).0 (sym (others m ne) ∙ h))
 

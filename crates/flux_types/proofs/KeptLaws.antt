@@ -1,5 +1,6 @@
 -- The laws of declarations, and of the entries and definitions that stand for them.
 use Rattle.std.proofs.Common.{◌≡◌, ◌⊎◌, ◌<◌, ◌≤◌, ◌+◌, ◌-◌, ◌^◌, ◌++◌, ℕ, zero, suc, List, [], ◌∷◌, Option, Some, None, Bool, true, false, not, length, map, get_or, slice_get, take, refl, sym, ap, subst, ◌∙◌, inl, inr, arith}
+use Rattle.std.proofs.lemmas.Option.{same_Some}
 use Rattle.std.proofs.Math.ListN.{set}
 use Rattle.std.specs.Option.{option_map, is_some}
 use Rattle.flux_schema.specs.Ty.{Ty, empty, atom, element, seq, alt, star, named, NamesBelow}
@@ -10,9 +11,6 @@ use Rattle.flux_types.specs.declared.draft.Entry.{Entry}
 use Rattle.flux_types.specs.declared.ty.Ty.{Ty as Tree}
 use Rattle.flux_types.specs.Read.{ty_of}
 use Rattle.flux_types.specs.Kept.{definition_of, definitions_of, declared_of, declarations_of, IsBody, IsDraft, AreKept}
-
-some_is : {A : Type 0} (x y : A) → Some x ≡ Some y → x ≡ y
-some_is x y e = cc
 
 -- what doesn't hold of a number or of those below it
 pub below_next : (P : ℕ → Type 0) (i : ℕ) → ((x : ℕ) → x < i → P x → ⊥) → (P i → ⊥) → (x : ℕ) → x < i + 1 → P x → ⊥
@@ -53,7 +51,7 @@ names-with_body (d ∷ ds) (suc x) t = ap (λ ns. d.name ∷ ns) (names-with_bod
 
 bodies-with_body : (ds : Declarations) (x : ℕ) (t : Ty) (y : ℕ) (u : Ty) → declared_body (with_body ds x t) y ≡ Some u → (t ≡ u) ⊎ (declared_body ds y ≡ Some u)
 bodies-with_body [] x t y u e = cc
-bodies-with_body (d ∷ ds) zero t zero u e = inl (some_is _ _ e)
+bodies-with_body (d ∷ ds) zero t zero u e = inl (same_Some _ _ e)
 bodies-with_body (d ∷ ds) zero t (suc y) u e = inr e
 bodies-with_body (d ∷ ds) (suc x) t zero u e = inr e
 bodies-with_body (d ∷ ds) (suc x) t (suc y) u e = bodies-with_body ds x t y u e
@@ -76,7 +74,7 @@ length-push [] x = refl
 length-push (y ∷ xs) x = omega (arith, length-push xs x)
 
 pub get-push : (ns : List ℕ) (n i m : ℕ) → slice_get (ns ++ n ∷ []) i ≡ Some m → (slice_get ns i ≡ Some m) ⊎ ((i ≡ length ns) × (n ≡ m))
-get-push [] n zero m e = inr (refl, some_is _ _ e)
+get-push [] n zero m e = inr (refl, same_Some _ _ e)
 get-push [] n (suc i) m e = cc
 get-push (k ∷ ns) n zero m e = inl e
 get-push (k ∷ ns) n (suc i) m e = elim (get-push ns n i m e) [ inl h ↦ inl h | inr h ↦ inr (ap suc h.0, h.1) ]
@@ -171,7 +169,7 @@ some_maps f None r e h k = cc (ap not h)
 some_maps f (Some a) r e h k = cc
 
 pub same_some : (i j : ℕ) (o : Option ℕ) → o ≡ Some i → o ≡ Some j → i ≡ j
-same_some i j o e f = some_is i j (sym e ∙ f)
+same_some i j o e f = same_Some i j (sym e ∙ f)
 
 pub kept_here : (ks : List Kept) (i : ℕ) (k : Kept) → i < length ks → k ≡ get_or ks i k → body_of (definitions_of ks) i ≡ Some (ty_of k.body)
 kept_here [] i k lt is = absurd (omega (arith, lt))

@@ -1,5 +1,6 @@
 -- The laws of the search for the names that a name reaches.
 use Rattle.std.proofs.Common.{◌≡◌, ◌⊎◌, ◌<◌, ◌+◌, ◌++◌, ◌↔◌, ℕ, zero, suc, List, [], ◌∷◌, Option, Some, Bool, true, false, length, get_or, replicate, refl, sym, ap, subst, ◌∙◌, inl, inr, arith}
+use Rattle.std.proofs.lemmas.Option.{same_Some}
 use Rattle.std.proofs.Math.ListN.{set}
 use Rattle.flux_schema.specs.Ty.{Ty, empty, atom, element, seq, alt, star, named, NamesBelow}
 use Rattle.flux_schema.specs.Definitions.{StandsIn, Leads, Reaches, at_once, through}
@@ -95,12 +96,9 @@ stands_below n (alt t u) y b (inr s) = stands_below n u y b.1 s
 stands_below n (star t) y b s = stands_below n t y b s
 stands_below n (named x) y b s = subst (λ z. z < n) (sym s) b
 
-some_is : (x y : Ty) → Some x ≡ Some y → x ≡ y
-some_is x y e = cc
-
 -- the body that a name leads by is its body
 leads_by : (bodies : ℕ → Option Ty) (x y : ℕ) (t : Ty) → bodies x ≡ Some t → Leads bodies x y → StandsIn y t
-leads_by bodies x y t e (u, f, s) = subst (StandsIn y) (some_is u t (sym f ∙ e)) s
+leads_by bodies x y t e (u, f, s) = subst (StandsIn y) (same_Some u t (sym f ∙ e)) s
 
 pub searches_init : (bodies : ℕ → Option Ty) (n x : ℕ) (t : Ty) (start marks : List Bool) (none waiting : List ℕ) → bodies x ≡ Some t → NamesBelow n t → start ≡ replicate n false → none ≡ [] → length marks ≡ n → Visits t start marks none waiting → Searches bodies n x marks waiting
 searches_init bodies n x t start marks none waiting e b is_start is_none len v =

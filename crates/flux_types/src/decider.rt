@@ -38,8 +38,8 @@ pub trait Decider {
         ensures good { AreKept (definitions self.now) }
         ensures known { All (IsKnownPair (definitions self.now)) (known self.now) };
 
-    /// Whether each member of the left type is a member of the right one. A forest that is shown has
-    /// labels of the left type alone (`members_have_labels_of_their_types`).
+    /// Whether each member of the left type is a member of the right one. A forest that is shown
+    /// has labels of the left type alone (`members_have_labels_of_their_types`).
     fn included(&mut self, alloc: Global, left: &Ty, right: &Ty) -> Result<Verdict, AllocError>
         requires left_known { IsKnown (definitions self.old) (ty_of left.now) }
         requires right_known { IsKnown (definitions self.old) (ty_of right.now) }

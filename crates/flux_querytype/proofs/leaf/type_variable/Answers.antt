@@ -8,7 +8,7 @@ copied-requires c = (c.requires c.args.var.now (ty_of c.in-Some.ty.now) c.in-Som
 
 pub returns-in_ok-copied-in-Some : goal.returns-in_ok-copied-in-Some
 returns-in_ok-copied-in-Some c =
-    variable_copied c.args.defs.now c.args.gamma.now c.args.place c.args.var.now c.in_ok-copied-in-Some.field-0.ty c.in-Some.ty.now c.in-Some.ensures.some c.in_ok-copied-in-Some.ensures
+    variable_copied c.args.defs.now c.args.gamma.now c.args.span.now c.args.var.now c.in_ok-copied-in-Some.field-0.ty c.in-Some.ty.now c.in-Some.ensures.some c.in_ok-copied-in-Some.ensures
 
 pub returns-in-None : goal.returns-in-None
 returns-in-None c = of_no_variable c.in-None.ensures.none

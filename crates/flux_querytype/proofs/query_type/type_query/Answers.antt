@@ -1,13 +1,14 @@
+use Rattle.std.proofs.Common.{refl}
 use Rattle.flux_types.specs.Read.{ty_of}
 use Rattle.flux_query.specs.Read.{query_of}
 use Rattle.flux_querytype.proofs.Known.{typed_usable, ready_of}
 use Rattle.flux_querytype.proofs.query_type.type_query.Goals as goal
 
 pub type_of-requires : goal.type_of-requires
-type_of-requires g c = record { ready = ready_of (g.D.Decider.definitions c.args.decider.now) _ c.args.gamma.now c.defs.ensures c.len-count.ensures.kept c.requires }
+type_of-requires g c = record { ready = ready_of (g.D.Decider.definitions c.args.decider.now) _ c.args.gamma.now refl c.defs-defs.ensures.good c.requires }
 
 pub returns-clause-usable : goal.returns-clause-usable
 returns-clause-usable g c =
     let defs = g.D.Decider.definitions c.args.decider.now in
-    let ready = ready_of defs _ c.args.gamma.now c.defs.ensures c.len-count.ensures.kept c.requires in
+    let ready = ready_of defs _ c.args.gamma.now refl c.defs-defs.ensures.good c.requires in
     typed_usable defs c.args.gamma.now (query_of c.args.query.now) (ty_of c.in_ok-made.made.ty) ready c.in_ok-made.ensures.answer c.in_ok-made.made.limits

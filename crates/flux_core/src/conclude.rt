@@ -1,13 +1,12 @@
-// Types that are concluded of others. Each is tested, and refused at a place where it is over the
-// limits.
+// Types that are concluded of others. Each is tested before it is made, and refused at a place
+// where it is over the limits.
 ghost use Rattle.std.specs.Prelude.{◌≡◌};
 ghost use Rattle.flux_schema.specs.Ty.{empty, atom, element, seq, alt, star};
 ghost use Rattle.flux_types.specs.Read.{ty_of};
-ghost use Rattle.flux_querytype.specs.Answers.{IsConclusion};
+ghost use Rattle.flux_core.specs.Answers.{IsConclusion};
 
-use crate::measured::Measured;
+use crate::{KindFault, Measured};
 use flux_atom::{AtomKind, Boxed, Name};
-use flux_core::KindFault;
 use flux_types::Ty;
 use std::alloc::Global;
 
@@ -15,7 +14,8 @@ const MOST_NODES: u32 = 65536;
 
 const MOST_LEVELS: u32 = 500;
 
-pub(crate) fn nothing() -> Measured
+/// The empty type.
+pub fn nothing() -> Measured
     ensures { ty_of result.ty ≡ empty }
 {
     Measured {
@@ -25,7 +25,8 @@ pub(crate) fn nothing() -> Measured
     }
 }
 
-pub(crate) fn one_atom(kind: AtomKind) -> Measured
+/// The type of an atom.
+pub fn one_atom(kind: AtomKind) -> Measured
     ensures { ty_of result.ty ≡ atom kind }
 {
     Measured {
@@ -35,7 +36,8 @@ pub(crate) fn one_atom(kind: AtomKind) -> Measured
     }
 }
 
-pub(crate) fn one_element(
+/// An element type, or TypeTooLarge at the place.
+pub fn one_element(
     alloc: Global,
     place: u32,
     label: Name,
@@ -52,7 +54,8 @@ pub(crate) fn one_element(
     Ok(Measured { ty, nodes, levels })
 }
 
-pub(crate) fn in_sequence(
+/// A sequence, or TypeTooLarge at the place.
+pub fn in_sequence(
     alloc: Global,
     place: u32,
     left: Measured,
@@ -69,7 +72,8 @@ pub(crate) fn in_sequence(
     Ok(Measured { ty, nodes, levels })
 }
 
-pub(crate) fn either(
+/// A choice, or TypeTooLarge at the place.
+pub fn either(
     alloc: Global,
     place: u32,
     left: Measured,
@@ -86,7 +90,8 @@ pub(crate) fn either(
     Ok(Measured { ty, nodes, levels })
 }
 
-pub(crate) fn repeated(alloc: Global, place: u32, inner: Measured) -> Result<Measured, KindFault>
+/// A star, or TypeTooLarge at the place.
+pub fn repeated(alloc: Global, place: u32, inner: Measured) -> Result<Measured, KindFault>
     ensures { IsConclusion place (star (ty_of inner.ty)) result }
 {
     let nodes = inner.nodes + 1;

@@ -1,0 +1,18 @@
+-- What typing answers, and what a conclusion does.
+use Rattle.std.specs.Prelude.{◌≡◌, ℕ, [], Result, Ok, Err}
+use Rattle.flux_schema.specs.Ty.{Ty}
+use Rattle.flux_schema.specs.Definitions.{Definitions}
+use Rattle.flux_types.specs.Read.{ty_of}
+use Rattle.flux_calculus.specs.Typing.{Outcome, typed, concluded}
+use Rattle.flux_core.specs.declared.fault.KindFault.{KindFault}
+use Rattle.flux_core.specs.declared.measured.Measured.{Measured}
+use Rattle.flux_core.specs.Faults.{IsFault}
+
+-- the outcome is this type or this fault
+abbrev pub IsAnswer : Definitions → (Outcome → Type 0) → Result Measured KindFault → Type 0
+IsAnswer defs Comes (Ok made) = Comes (typed (ty_of made.ty))
+IsAnswer defs Comes (Err fault) = IsFault defs Comes fault
+
+-- the type is concluded, or it is too large
+abbrev pub IsConclusion : ℕ → Ty → Result Measured KindFault → Type 0
+IsConclusion at t = IsAnswer [] (λ o. concluded at t ≡ o)
