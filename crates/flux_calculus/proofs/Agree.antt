@@ -173,8 +173,11 @@ data EachVerdict (procs : Procs) (d : ℕ) (γ : Environment) (s : Core) (v : Pl
 module _ (procs : Procs) (d : ℕ) where
   both_verdict : (γ : Environment) (at : Span) (s r : Core) (v : Plain) → Verdict procs d γ s v → ((u : Plain) → Verdict procs d γ r u) → Verdict procs d γ (both at s r) v
   both_verdict γ at s r v (derived u a) h =
-      elim (h u) [ derived w b ↦ derived w (follows a b) | exceeded place b ↦ exceeded place (in_others a b)
-        | no_rule f ↦ no_rule (λ fs k. derives-does a fs (λ x. Does procs d γ r fs x k) ∙ f fs k) ]
+      elim (h u) [
+        | derived w b ↦ derived w (follows a b)
+        | exceeded place b ↦ exceeded place (in_others a b)
+        | no_rule f ↦ no_rule (λ fs k. derives-does a fs (λ x. Does procs d γ r fs x k) ∙ f fs k)
+      ]
   both_verdict γ at s r v (exceeded place a) h = exceeded place (in_first a)
   both_verdict γ at s r v (no_rule f) h = no_rule (λ fs k. f fs (λ u. Does procs d γ r fs u k))
 
@@ -184,11 +187,17 @@ module _ (procs : Procs) (d : ℕ) where
   choice_verdict : (γ : Environment) (at : Span) (c : Query) (s r : Core) (v : Plain) (b : Option Bool) → condition γ c ≡ b → Verdict procs d γ s v → Verdict procs d γ r v → Verdict procs d γ (choice at c s r) v
   choice_verdict γ at c s r v None e g h = no_rule (λ fs k. no_choice γ c s r fs v k e)
   choice_verdict γ at c s r v (Some true) e g h =
-      elim g [ derived w a ↦ derived w (takes_yes e a) | exceeded place a ↦ exceeded place (in_yes e a)
-        | no_rule f ↦ no_rule (λ fs k. on_true (condition γ c) (Does procs d γ s fs v k) (Does procs d γ r fs v k) e ∙ f fs k) ]
+      elim g [
+        | derived w a ↦ derived w (takes_yes e a)
+        | exceeded place a ↦ exceeded place (in_yes e a)
+        | no_rule f ↦ no_rule (λ fs k. on_true (condition γ c) (Does procs d γ s fs v k) (Does procs d γ r fs v k) e ∙ f fs k)
+      ]
   choice_verdict γ at c s r v (Some false) e g h =
-      elim h [ derived w a ↦ derived w (takes_no e a) | exceeded place a ↦ exceeded place (in_no e a)
-        | no_rule f ↦ no_rule (λ fs k. on_false (condition γ c) (Does procs d γ s fs v k) (Does procs d γ r fs v k) e ∙ f fs k) ]
+      elim h [
+        | derived w a ↦ derived w (takes_no e a)
+        | exceeded place a ↦ exceeded place (in_no e a)
+        | no_rule f ↦ no_rule (λ fs k. on_false (condition γ c) (Does procs d γ s fs v k) (Does procs d γ r fs v k) e ∙ f fs k)
+      ]
 
   no_value : (o : Option Plain) (go : Plain → Ending) → o ≡ None → on_value endings o go ≡ Stuck
   no_value o go e = rw e refl
@@ -196,8 +205,11 @@ module _ (procs : Procs) (d : ℕ) where
   binding_verdict : (γ : Environment) (at : Span) (x : Var) (q : Query) (s : Core) (v : Plain) (o : Option Plain) → value γ q ≡ o → ((u : Plain) → Verdict procs d ((x, u) ∷ γ) s v) → Verdict procs d γ (binding at x q s) v
   binding_verdict γ at x q s v None e h = no_rule (λ fs k. no_value (value γ q) (λ u. Does procs d ((x, u) ∷ γ) s fs v (λ w. k w)) e)
   binding_verdict γ at x q s v (Some u) e h =
-      elim (h u) [ derived w a ↦ derived w (binds e a) | exceeded place a ↦ exceeded place (in_binding e a)
-        | no_rule f ↦ no_rule (λ fs k. after_value (value γ q) u (λ y. Does procs d ((x, y) ∷ γ) s fs v (λ w. k w)) e ∙ f fs (λ w. k w)) ]
+      elim (h u) [
+        | derived w a ↦ derived w (binds e a)
+        | exceeded place a ↦ exceeded place (in_binding e a)
+        | no_rule f ↦ no_rule (λ fs k. after_value (value γ q) u (λ y. Does procs d ((x, y) ∷ γ) s fs v (λ w. k w)) e ∙ f fs (λ w. k w))
+      ]
 
   snapshot_verdict : (γ : Environment) (at : Span) (x : Var) (s : Core) (v : Plain) → Verdict procs d ((x, v) ∷ γ) s v → Verdict procs d γ (snapshot at x s) v
   snapshot_verdict γ at x s v (derived w a) = derived w (notes a)
@@ -224,8 +236,11 @@ module _ (procs : Procs) (d : ℕ) where
   test_verdict γ at t s v false c many e h = no_rule (λ fs k. no_tree t (Does procs d γ s) fs v k many)
   test_verdict γ at t s v true false one misses h = derived v (passes one misses)
   test_verdict γ at t s v true true one fits h =
-      elim h [ derived w a ↦ derived w (tests one fits a) | exceeded place a ↦ exceeded place (in_test one fits a)
-        | no_rule f ↦ no_rule (λ fs k. matched t (Does procs d γ s) fs v k one fits ∙ f fs k) ]
+      elim h [
+        | derived w a ↦ derived w (tests one fits a)
+        | exceeded place a ↦ exceeded place (in_test one fits a)
+        | no_rule f ↦ no_rule (λ fs k. matched t (Does procs d γ s) fs v k one fits ∙ f fs k)
+      ]
 
   content_verdict : (γ : Environment) (at : Span) (n : ℕ) (c : Plain) (s : Core) → Verdict procs d γ s c → Verdict procs d γ (children at s) (elem tt n c nil)
   content_verdict γ at n c s (derived w a) = derived (elem tt n w nil) (enters a)
@@ -335,15 +350,17 @@ exceeds-deep a = exceeds-does a [] Gives
 
 pub gives-derives : (procs : Procs) (d : ℕ) (γ : Environment) (s : Core) (v w : Plain) → ending procs d γ s v ≡ Gives w → Derives procs d γ v s w
 gives-derives procs d γ s v w e = elim (verdict procs d γ s v) [
-    derived x a ↦ (let h : Gives x ≡ Gives w = sym (derives-gives a) ∙ e in let j : x ≡ w = cc in subst (λ y. Derives procs d γ v s y) j a)
+  | derived x a ↦ (let h : Gives x ≡ Gives w = sym (derives-gives a) ∙ e in let j : x ≡ w = cc in subst (λ y. Derives procs d γ v s y) j a)
   | exceeded place a ↦ (let h : TooDeep place ≡ Gives w = sym (exceeds-deep a) ∙ e in cc)
-  | no_rule f ↦ (let h : Stuck ≡ Gives w = sym (f [] Gives) ∙ e in cc) ]
+  | no_rule f ↦ (let h : Stuck ≡ Gives w = sym (f [] Gives) ∙ e in cc)
+]
 
 pub deep-exceeds : (procs : Procs) (d : ℕ) (γ : Environment) (s : Core) (v : Plain) (place : ℕ) → ending procs d γ s v ≡ TooDeep place → Exceeds procs d γ v s place
 deep-exceeds procs d γ s v place e = elim (verdict procs d γ s v) [
-    derived x a ↦ (let h : Gives x ≡ TooDeep place = sym (derives-gives a) ∙ e in cc)
+  | derived x a ↦ (let h : Gives x ≡ TooDeep place = sym (derives-gives a) ∙ e in cc)
   | exceeded at a ↦ (let h : TooDeep at ≡ TooDeep place = sym (exceeds-deep a) ∙ e in let j : at ≡ place = cc in subst (λ y. Exceeds procs d γ v s y) j a)
-  | no_rule f ↦ (let h : Stuck ≡ TooDeep place = sym (f [] Gives) ∙ e in cc) ]
+  | no_rule f ↦ (let h : Stuck ≡ TooDeep place = sym (f [] Gives) ∙ e in cc)
+]
 
 pub derivation_computed : (procs : Procs) (d : ℕ) (γ : Environment) (v : Plain) (s : Core) (w : Plain) → Derives procs d γ v s w ↔ (ending procs d γ s v ≡ Gives w)
 derivation_computed procs d γ v s w = ((λ a. derives-gives a), (λ e. gives-derives procs d γ s v w e))

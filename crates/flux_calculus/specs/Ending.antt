@@ -121,7 +121,7 @@ endings = record {
   seen = λ v. v;
   inserted = λ fs w k. k w;
   deleted = λ fs v o. o;
-  renamed = λ m a n o. o
+  renamed = λ m a n o. o;
 }
 
 -- how a statement ends on a forest

@@ -39,8 +39,8 @@ impl MemFolder {
     ghost use Rattle.flux_io.specs.declared.memory.Place.TheVariants.{Lost};
     ghost use Rattle.flux_io.specs.Memory.{files_of, fails_of, calls_of, faults_of, FailsNext, IsCall};
 
-    /// A folder of these files, by their names, whose calls of the numbers in `fails` fail. It takes
-    /// no memory of its own.
+    /// A folder of these files, by their names, whose calls of the numbers in `fails` fail. It
+    /// takes no memory of its own.
     pub fn new(_alloc: Global, files: Vec<(String, Vec<u8>)>, fails: Vec<u64>) -> MemFolder
         ensures holds { ⟦<MemFolder as Folder>⟧.holds result
             ≡ Some (record { map = listed files.items; rest = None }) }

@@ -17,11 +17,7 @@ fn folder_of(
         );
         owned.push(file)?;
     }
-    Ok(MemFolder::new(
-        alloc,
-        owned,
-        Vec::from_slice(alloc, fails)?,
-    ))
+    Ok(MemFolder::new(alloc, owned, Vec::from_slice(alloc, fails)?))
 }
 
 #[test]

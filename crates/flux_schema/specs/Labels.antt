@@ -21,4 +21,4 @@ pub data LabelIn (defs : Definitions) (n : ℕ) : Ty → Type 0 where
 abbrev pub MembersHaveLabelsOfTheirTypes : Type 0
 MembersHaveLabelsOfTheirTypes =
     (defs : Definitions) (v : Plain) (t : Ty) →
-        Member defs v t → EachLabel (λ n. LabelIn defs n t) v
+    Member defs v t → EachLabel (λ n. LabelIn defs n t) v

@@ -75,7 +75,7 @@ top (t ∷ s) = t
 abbrev pub ty_code : Coded Ty
 ty_code =
     code_by (List Mark)
-        (coded_list (coded⊎
-            (coded⊎ coded_unit (coded⊎ coded_bool coded_ℕ))
-            (coded⊎ coded_ℕ (coded⊎ coded_unit coded_bool))))
-        (λ t. marks_before t []) (λ ms. top (read ms)) (λ t. ap top (read-marks t []))
+    (coded_list (coded⊎
+    (coded⊎ coded_unit (coded⊎ coded_bool coded_ℕ))
+    (coded⊎ coded_ℕ (coded⊎ coded_unit coded_bool))))
+    (λ t. marks_before t []) (λ ms. top (read ms)) (λ t. ap top (read-marks t []))

@@ -55,10 +55,10 @@ text_of names defs empty = codes "()"
 text_of names defs (atom k) = kind_text k
 text_of names defs (element n t) =
     quoted (name_text names n) ++ codes "["
-        ++ (if is_empty t then [] else text_of names defs t) ++ codes "]"
+    ++ (if is_empty t then [] else text_of names defs t) ++ codes "]"
 text_of names defs (seq t u) =
     enclosed (is_choice t) (text_of names defs t) ++ codes ","
-        ++ enclosed (is_choice u) (text_of names defs u)
+    ++ enclosed (is_choice u) (text_of names defs u)
 text_of names defs (alt t u) = text_of names defs t ++ codes "|" ++ text_of names defs u
 text_of names defs (star t) = enclosed (is_list t) (text_of names defs t) ++ codes "*"
 text_of names defs (named x) = definition_text names defs x

@@ -167,7 +167,7 @@ pub fn flux<F: Folder, W: Sink, X: Sink>(
         (W.written out.old) (W.written out.new) result }
     ensures reads_back { result ≡ Status.Done →
         ReadsBack (F.holds folder.old) (texts words.now.items)
-            (W.written out.old) (W.written out.new) }
+        (W.written out.old) (W.written out.new) }
     ensures line { Shows (F.holds folder.old) (texts words.now.items)
         (X.written err.old) (X.written err.new)
         (Rose (X.faults err.old) (X.faults err.new)) result }

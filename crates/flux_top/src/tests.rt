@@ -41,11 +41,7 @@ fn folder(
     files.push((String::from_str(alloc, "s")?, script))?;
     let document = Vec::from_slice(alloc, document)?;
     files.push((String::from_str(alloc, "d")?, document))?;
-    Ok(MemFolder::new(
-        alloc,
-        files,
-        Vec::from_slice(alloc, &[fails])?,
-    ))
+    Ok(MemFolder::new(alloc, files, Vec::from_slice(alloc, &[fails])?))
 }
 
 fn end(

@@ -45,16 +45,12 @@ pub trait Decider {
         requires right_known { IsKnown (definitions self.old) (ty_of right.now) }
         requires left_limits { IsWithinLimits (ty_of left.now) }
         requires right_limits { IsWithinLimits (ty_of right.now) }
-        ensures verdict {
-            IfOk result (IsVerdict (definitions self.old) (ty_of left.now) (ty_of right.now))
-        }
-        ensures remembered {
-            Contains (known self.old) (ty_of left.now, ty_of right.now) → IsOkAnd result IsYes
-        }
-        ensures kept {
-            IsTrue (keeps self.old) → IsOkAnd result IsYes →
-                Contains (known self.new) (ty_of left.now, ty_of right.now)
-        }
+        ensures verdict { IfOk result
+            (IsVerdict (definitions self.old) (ty_of left.now) (ty_of right.now)) }
+        ensures remembered { Contains (known self.old) (ty_of left.now, ty_of right.now) →
+            IsOkAnd result IsYes }
+        ensures kept { IsTrue (keeps self.old) → IsOkAnd result IsYes →
+            Contains (known self.new) (ty_of left.now, ty_of right.now) }
         ensures still { (p : TypePair) → Contains (known self.old) p → Contains (known self.new) p }
         ensures same_definitions { definitions self.new ≡ definitions self.old }
         ensures same_keeps { keeps self.new ≡ keeps self.old };

@@ -133,5 +133,4 @@ pub fn membership_computes(defs: &Defs)
 /// does nothing: its contract is the law.
 pub fn members_have_labels_of_their_types()
     ensures { MembersHaveLabelsOfTheirTypes }
-{
-}
+{}

@@ -90,9 +90,8 @@ impl Draft {
 
         ensures index { IfOk result (λ index. index ≡ length self.old) }
         ensures ok { OnOk result (self.new ≡ self.old ++ record { name = name; body = None } ∷ []) }
-        ensures fresh {
-            OnOk result ((x : ℕ) → ¬ (slice_get (declared_names self.old) x ≡ Some name))
-        }
+        ensures fresh { OnOk result
+            ((x : ℕ) → ¬ (slice_get (declared_names self.old) x ≡ Some name)) }
         ensures fault { IfErr result (DeclareFault self.old name) }
         ensures err { OnErr result (self.new ≡ self.old) }
     {
@@ -108,9 +107,8 @@ impl Draft {
 
     /// The index of a name.
     pub fn lookup(&self, name: Name) -> Option<u32>
-        ensures {
-            (x : ℕ) → (result ≡ Some x) ↔ (slice_get (declared_names self.now) x ≡ Some name)
-        }
+        ensures { (x : ℕ) →
+            (result ≡ Some x) ↔ (slice_get (declared_names self.now) x ≡ Some name) }
     {
         index_of(&self.indices, name)
     }
@@ -147,10 +145,8 @@ impl Draft {
 }
 
 fn push_name(entries: &mut Vec<Entry>, name: Name) -> Result<(), AllocError>
-    ensures ok {
-        OnOk result (declarations_of entries.new.items ≡
-            declarations_of entries.old.items ++ record { name = name; body = None } ∷ [])
-    }
+    ensures ok { OnOk result (declarations_of entries.new.items ≡
+        declarations_of entries.old.items ++ record { name = name; body = None } ∷ []) }
     ensures err { OnErr result (entries.new.items ≡ entries.old.items) }
 {
     entries.push(Entry { name, body: None })?;
@@ -159,9 +155,8 @@ fn push_name(entries: &mut Vec<Entry>, name: Name) -> Result<(), AllocError>
 
 fn put_body(entries: &mut [Entry], index: u32, body: Ty)
     requires { index < length entries.old }
-    ensures {
-        declarations_of entries.new ≡ with_body (declarations_of entries.old) index (ty_of body)
-    }
+    ensures { declarations_of entries.new
+        ≡ with_body (declarations_of entries.old) index (ty_of body) }
 {
     entries[index as usize].body = Some(body);
 }
@@ -181,10 +176,8 @@ fn first_unknown(entries: &[Entry]) -> Option<u32>
 
 fn with_bodies(alloc: Global, entries: Vec<Entry>) -> Result<Vec<Kept>, AllocError>
     requires { (x : ℕ) → ¬ (LacksBody (declarations_of entries.items) x) }
-    ensures {
-        IfOk result (λ kept.
-            map as_declared (definitions_of kept.items) ≡ declarations_of entries.items)
-    }
+    ensures { IfOk result (λ kept.
+        map as_declared (definitions_of kept.items) ≡ declarations_of entries.items) }
 {
     let mut kept = Vec::new(alloc);
     for entry in entries {

@@ -30,9 +30,8 @@ pub(crate) fn make_room(indices: &mut Vec<Option<u32>>, name: Name) -> Result<()
 pub(crate) fn set_index(indices: &mut Vec<Option<u32>>, name: Name, index: u32)
     requires { name < length indices.old.items }
     ensures here { index_in indices.new.items name ≡ Some index }
-    ensures others {
-        (n : ℕ) → (n ≡ name → ⊥) → index_in indices.new.items n ≡ index_in indices.old.items n
-    }
+    ensures others { (n : ℕ) → (n ≡ name → ⊥) →
+        index_in indices.new.items n ≡ index_in indices.old.items n }
 {
     indices[name.number() as usize] = Some(index);
 }

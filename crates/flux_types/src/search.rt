@@ -14,12 +14,10 @@ use std::alloc::{AllocError, Global};
 pub(crate) fn first_unguarded(alloc: Global, kept: &[Kept]) -> Result<Option<u32>, AllocError>
     requires few { length kept.now < 2 ^ 32 }
     requires known { AreKnown (definitions_of kept.now) }
-    ensures {
-        IfOk result (λ found.
-            MatchOption found
-                ((x : ℕ) → ¬ (Reaches (body_of (definitions_of kept.now)) x x))
-                (IsFirst (λ x. Reaches (body_of (definitions_of kept.now)) x x)))
-    }
+    ensures { IfOk result (λ found.
+        MatchOption found
+        ((x : ℕ) → ¬ (Reaches (body_of (definitions_of kept.now)) x x))
+        (IsFirst (λ x. Reaches (body_of (definitions_of kept.now)) x x))) }
 {
     for index in 0..kept.len() as u32 {
         if reaches_itself(alloc, kept, index)? {
@@ -32,10 +30,8 @@ pub(crate) fn first_unguarded(alloc: Global, kept: &[Kept]) -> Result<Option<u32
 fn reaches_itself(alloc: Global, kept: &[Kept], index: u32) -> Result<bool, AllocError>
     requires within { index < length kept.now }
     requires known { AreKnown (definitions_of kept.now) }
-    ensures {
-        IfOk result (λ found.
-            IsTrue found ↔ Reaches (body_of (definitions_of kept.now)) index index)
-    }
+    ensures { IfOk result (λ found.
+        IsTrue found ↔ Reaches (body_of (definitions_of kept.now)) index index) }
 {
     let mut marks = vec![in alloc; false; kept.len()]?;
     let mut waiting = Vec::new(alloc);
@@ -50,10 +46,8 @@ fn reaches_itself(alloc: Global, kept: &[Kept], index: u32) -> Result<bool, Allo
 // recurses by the height of the type; names are followed by the loop above.
 fn mark_standing(ty: &Ty, marks: &mut [bool], waiting: &mut Vec<u32>) -> Result<(), AllocError>
     requires { NamesBelow (length marks.old) (ty_of ty.now) }
-    ensures {
-        OnOk result
-            (Visits (ty_of ty.now) marks.old marks.new waiting.old.items waiting.new.items)
-    }
+    ensures { OnOk result
+        (Visits (ty_of ty.now) marks.old marks.new waiting.old.items waiting.new.items) }
 {
     match ty {
         Ty::Empty | Ty::Atom(_) | Ty::Elem(_, _) => Ok(()),
@@ -68,9 +62,8 @@ fn mark_standing(ty: &Ty, marks: &mut [bool], waiting: &mut Vec<u32>) -> Result<
 
 fn mark(index: u32, marks: &mut [bool], waiting: &mut Vec<u32>) -> Result<(), AllocError>
     requires { index < length marks.old }
-    ensures {
-        OnOk result (Visits (named index) marks.old marks.new waiting.old.items waiting.new.items)
-    }
+    ensures { OnOk result
+        (Visits (named index) marks.old marks.new waiting.old.items waiting.new.items) }
 {
     if !marks[index as usize] {
         waiting.push(index)?;

@@ -19,10 +19,8 @@ pub fn write_type(
     out: &mut Vec<u8>,
 ) -> Result<(), AllocError>
     requires { IsWritable (length names.now) defs.now (tidy (ty_of ty.now)) }
-    ensures ok {
-        OnOk result (out.new.items ≡
-            out.old.items ++ text_of names.now defs.now (tidy (ty_of ty.now)))
-    }
+    ensures ok { OnOk result (out.new.items ≡
+        out.old.items ++ text_of names.now defs.now (tidy (ty_of ty.now))) }
     ensures err { OnErr result (out.new.items ≡ out.old.items) }
 {
     let tidied = tidy(alloc, ty)?;
@@ -35,9 +33,8 @@ pub fn write_type(
 #[cycle(push_type)]
 fn push_type(defs: &Defs, ty: &Ty, names: &Names, out: &mut Vec<u8>) -> Result<(), AllocError>
     requires { IsWritable (length names.now) defs.now (ty_of ty.now) }
-    ensures {
-        OnOk result (out.new.items ≡ out.old.items ++ text_of names.now defs.now (ty_of ty.now))
-    }
+    ensures { OnOk result
+        (out.new.items ≡ out.old.items ++ text_of names.now defs.now (ty_of ty.now)) }
 {
     match ty {
         Ty::Empty => out.extend_from_slice(b"()"),
@@ -77,10 +74,8 @@ fn push_part(
     wanted: bool,
 ) -> Result<(), AllocError>
     requires { IsWritable (length names.now) defs.now (ty_of ty.now) }
-    ensures {
-        OnOk result (out.new.items ≡
-            out.old.items ++ enclosed wanted (text_of names.now defs.now (ty_of ty.now)))
-    }
+    ensures { OnOk result (out.new.items ≡
+        out.old.items ++ enclosed wanted (text_of names.now defs.now (ty_of ty.now))) }
 {
     if !wanted {
         return push_type(defs, ty, names, out);
@@ -94,10 +89,8 @@ fn push_part(
 #[cycle(push_type)]
 fn push_content(defs: &Defs, ty: &Ty, names: &Names, out: &mut Vec<u8>) -> Result<(), AllocError>
     requires { IsWritable (length names.now) defs.now (ty_of ty.now) }
-    ensures {
-        OnOk result (out.new.items ≡ out.old.items ++
-            (if is_empty (ty_of ty.now) then [] else text_of names.now defs.now (ty_of ty.now)))
-    }
+    ensures { OnOk result (out.new.items ≡ out.old.items ++
+        (if is_empty (ty_of ty.now) then [] else text_of names.now defs.now (ty_of ty.now))) }
 {
     if is_empty(ty) {
         return Ok(());
@@ -153,9 +146,8 @@ fn push_definition(
     out: &mut Vec<u8>,
 ) -> Result<(), AllocError>
     requires { IsSomeAnd (slice_get defs.now index) (λ d. d.name < length names.now) }
-    ensures {
-        OnOk result (out.new.items ≡ out.old.items ++ definition_text names.now defs.now index)
-    }
+    ensures { OnOk result
+        (out.new.items ≡ out.old.items ++ definition_text names.now defs.now index) }
 {
     let text = names.text(defs.name(index));
     out.extend_from_slice(text.as_bytes())

@@ -14,10 +14,8 @@ use std::alloc::{AllocError, Global};
 #[tactic(auto, using(flux_schema::proofs::TidyLaws::tidied_members))]
 pub fn tidy(alloc: Global, ty: &Ty) -> Result<Ty, AllocError>
     ensures form { IfOk result (λ made. ty_of made ≡ tidy (ty_of ty.now)) }
-    ensures members {
-        IfOk result (λ made.
-            (defs : Definitions) → SameMembers defs (ty_of ty.now) (ty_of made))
-    }
+    ensures members { IfOk result (λ made.
+        (defs : Definitions) → SameMembers defs (ty_of ty.now) (ty_of made)) }
 {
     tree(alloc, ty)
 }
