@@ -62,7 +62,8 @@ fn two(alloc: Global, sign: Sign, parts: &mut Vec<Ty>) -> Result<Ty, AllocError>
     }
 }
 
-fn ty(alloc: Global, signs: &[Sign]) -> Result<Ty, AllocError> {
+// The types that signs spell, the last first.
+fn types(alloc: Global, signs: &[Sign]) -> Result<Vec<Ty>, AllocError> {
     let mut parts = Vec::new(alloc);
     for sign in signs.iter().rev() {
         let made = match *sign {
@@ -74,7 +75,11 @@ fn ty(alloc: Global, signs: &[Sign]) -> Result<Ty, AllocError> {
         };
         parts.push(made)?;
     }
-    Ok(parts.pop().unwrap_or(Ty::Empty))
+    Ok(parts)
+}
+
+fn ty(alloc: Global, signs: &[Sign]) -> Result<Ty, AllocError> {
+    Ok(types(alloc, signs)?.pop().unwrap_or(Ty::Empty))
 }
 
 fn label(rt: &impl Abort, names: &mut Names, text: &str) -> Result<Name, Fail> {
@@ -83,24 +88,37 @@ fn label(rt: &impl Abort, names: &mut Names, text: &str) -> Result<Name, Fail> {
 }
 
 #[tactic(auto, using(flux_types::proofs::KeptLaws::counts))]
-fn set(rt: &impl Abort, draft: &mut Draft, index: u32, body: Ty) -> Result<(), AllocError>
-    requires { length draft.old ≡ 4 }
-    ensures { length draft.new ≡ 4 }
+fn set(
+    rt: &impl Abort,
+    draft: &mut Draft,
+    count: u32,
+    index: u32,
+    body: Ty,
+) -> Result<(), AllocError>
+    requires { length draft.old ≡ count }
+    ensures { length draft.new ≡ count }
 {
-    assert!(rt; index < 4 && is_known(&body, 4));
+    assert!(rt; index < count && is_known(&body, count));
     assert!(rt; size(&body) <= 65_536 && height(&body) <= 500);
     draft.define(index, body)
 }
 
 #[tactic(auto, using(flux_types::proofs::KeptLaws::counts))]
-fn four_names(alloc: Global, names: [Name; 4]) -> Result<Draft, Fail>
-    ensures { IfOk result (λ draft. length draft ≡ 4) }
+fn declare_many(
+    rt: &impl Abort,
+    alloc: Global,
+    names: &mut Names,
+    count: u32,
+) -> Result<Draft, Fail>
+    ensures { IfOk result (λ draft. length draft ≡ count) }
 {
     let mut draft = Draft::new(alloc);
-    draft.declare(names[0])?;
-    draft.declare(names[1])?;
-    draft.declare(names[2])?;
-    draft.declare(names[3])?;
+    for index in 0..count {
+        let text = format!(in alloc; "x{index}")?;
+        assert!(rt; is_name(&text) && names.len() < 1_000_000);
+        let name = names.intern(&text)?;
+        draft.declare(name)?;
+    }
     Ok(draft)
 }
 
@@ -118,17 +136,24 @@ fn make_scene(rt: &impl Abort, alloc: Global) -> Result<Scene, Fail> {
     let a = label(rt, &mut names, "a")?;
     let b = label(rt, &mut names, "b")?;
     let c = label(rt, &mut names, "c")?;
-    let d = label(rt, &mut names, "d")?;
-    let mut draft = four_names(alloc, [a, b, c, d])?;
-    set(rt, &mut draft, 0, ty(alloc, &[Element(a), Star, Named(0)])?)?;
-    set(rt, &mut draft, 1, ty(alloc, &[Element(a), Star, Named(1)])?)?;
-    set(rt, &mut draft, 2, ty(alloc, &[Element(c), Named(2)])?)?;
+    let either = [Alt, Element(a), Nothing, Element(b), Nothing];
+    let mut draft = declare_many(rt, alloc, &mut names, 4)?;
     set(
         rt,
         &mut draft,
-        3,
-        ty(alloc, &[Alt, Element(a), Nothing, Element(b), Nothing])?,
+        4,
+        0,
+        ty(alloc, &[Element(a), Star, Named(0)])?,
     )?;
+    set(
+        rt,
+        &mut draft,
+        4,
+        1,
+        ty(alloc, &[Element(a), Star, Named(1)])?,
+    )?;
+    set(rt, &mut draft, 4, 2, ty(alloc, &[Element(c), Named(2)])?)?;
+    set(rt, &mut draft, 4, 3, ty(alloc, &either)?)?;
     let defs = draft.close()?;
     Ok(Scene { a, b, c, defs })
 }
@@ -152,178 +177,152 @@ fn assert_included(
     rt: &impl Abort,
     alloc: Global,
     defs: &Defs,
-    left: &[Sign],
-    right: &[Sign],
+    left: &Ty,
+    right: &Ty,
     want: bool,
 ) -> Result<(), Fail> {
-    let left = ty(alloc, left)?;
-    let right = ty(alloc, right)?;
-    assert!(rt; is_known(&left, defs.len()) && is_known(&right, defs.len()));
-    assert!(rt; size(&left) <= 65_536 && height(&left) <= 500);
-    assert!(rt; size(&right) <= 65_536 && height(&right) <= 500);
+    assert!(rt; is_known(left, defs.len()) && is_known(right, defs.len()));
+    assert!(rt; size(left) <= 65_536 && height(left) <= 500);
+    assert!(rt; size(right) <= 65_536 && height(right) <= 500);
     let mut profiles = Profiles::new(defs);
-    match profiles.included(alloc, &left, &right)? {
+    match profiles.included(alloc, left, right)? {
         Verdict::Yes => assert!(rt; want),
         Verdict::No(forest) => {
             assert!(rt; !want);
-            assert!(rt; is_member(rt, alloc, defs, &left, &forest)?);
-            assert!(rt; !is_member(rt, alloc, defs, &right, &forest)?);
+            assert!(rt; is_member(rt, alloc, defs, left, &forest)?);
+            assert!(rt; !is_member(rt, alloc, defs, right, &forest)?);
         }
     }
     Ok(())
 }
 
-// Asserts whether each of two types is included in the other.
-fn assert_both(
+fn sign_of(at: &Scene, byte: u8) -> Option<Sign> {
+    match byte {
+        b'.' => Some(Nothing),
+        b'a' => Some(Element(at.a)),
+        b'b' => Some(Element(at.b)),
+        b'c' => Some(Element(at.c)),
+        b's' => Some(TEXT),
+        b't' => Some(TRUTH),
+        b'*' => Some(Star),
+        b',' => Some(Seq),
+        b'|' => Some(Alt),
+        b'0' => Some(Named(0)),
+        b'1' => Some(Named(1)),
+        b'2' => Some(Named(2)),
+        b'3' => Some(Named(3)),
+        _ => None,
+    }
+}
+
+fn spelled(alloc: Global, at: &Scene, text: &str) -> Result<Vec<Sign>, AllocError> {
+    let mut signs = Vec::new(alloc);
+    for byte in text.as_bytes() {
+        if let Some(sign) = sign_of(at, *byte) {
+            signs.push(sign)?;
+        }
+    }
+    Ok(signs)
+}
+
+// Of the types that the text spells, two by two, whether each is included in the other.
+fn assert_cases(
     rt: &impl Abort,
     alloc: Global,
-    defs: &Defs,
-    left: &[Sign],
-    right: &[Sign],
-    want: (bool, bool),
+    at: &Scene,
+    text: &str,
+    wants: &[(bool, bool)],
 ) -> Result<(), Fail> {
-    assert_included(rt, alloc, defs, left, right, want.0)?;
-    assert_included(rt, alloc, defs, right, left, want.1)
+    let signs = spelled(alloc, at, text)?;
+    let mut parts = types(alloc, &signs)?;
+    for want in wants {
+        let left = parts.pop().unwrap_or(Ty::Empty);
+        let right = parts.pop().unwrap_or(Ty::Empty);
+        assert_included(rt, alloc, &at.defs, &left, &right, want.0)?;
+        assert_included(rt, alloc, &at.defs, &right, &left, want.1)?;
+    }
+    assert!(rt; parts.is_empty());
+    Ok(())
+}
+
+const BOTH: (bool, bool) = (true, true);
+
+const LEFT_ONLY: (bool, bool) = (true, false);
+
+const RIGHT_ONLY: (bool, bool) = (false, true);
+
+const NEITHER: (bool, bool) = (false, false);
+
+#[test]
+fn elements(rt: HostRuntime) -> Result<(), Fail> {
+    let alloc = rt.alloc();
+    let at = make_scene(&rt, alloc)?;
+    // a[]*,a[]* and a[]*; a[]* and a[]; a[b[]|c[]] and a[b[]]|a[c[]]; a[(b[]|c[])*] and
+    // a[b[]*]|a[c[]*]; a[b[c[]]] and a[b[]]; a[],b[] and b[],a[]
+    let text = ",*a.*a. *a.  *a. a.  a|b.c. |ab.ac.  a*|b.c. |a*b.a*c.  abc. ab.  ,a.b. ,b.a.";
+    let wants = [BOTH, RIGHT_ONLY, BOTH, RIGHT_ONLY, NEITHER, NEITHER];
+    assert_cases(&rt, alloc, &at, text, &wants)
 }
 
 #[test]
-fn repetitions(rt: HostRuntime) -> Result<(), Fail> {
+fn names_and_atoms(rt: HostRuntime) -> Result<(), Fail> {
     let alloc = rt.alloc();
     let at = make_scene(&rt, alloc)?;
-    let many = [Star, Element(at.a), Nothing];
-    // a[]*,a[]*
-    let twice = [
-        Seq,
-        Star,
-        Element(at.a),
-        Nothing,
-        Star,
-        Element(at.a),
-        Nothing,
+    // the name 2, without members, and (); c[2] and 2; a[]|b[] and its name; two names of one form;
+    // () and string*; string|bool and string; string,bool and bool,string; a[bool] and a[string]
+    let text = "2 .  c2 2  |a.b. 3  0 1  . *s  |st s  ,st ,ts  at as";
+    let wants = [
+        LEFT_ONLY, BOTH, BOTH, BOTH, LEFT_ONLY, RIGHT_ONLY, NEITHER, NEITHER,
     ];
-    assert_both(&rt, alloc, &at.defs, &twice, &many, (true, true))?;
-    assert_both(
-        &rt,
-        alloc,
-        &at.defs,
-        &many,
-        &[Element(at.a), Nothing],
-        (false, true),
-    )
+    assert_cases(&rt, alloc, &at, text, &wants)
+}
+
+// More names than calls that nest have room for.
+const CHAIN: u32 = 20_000;
+
+// A name, or its choice with an empty element.
+fn link(alloc: Global, index: u32, beside: Option<Name>) -> Result<Ty, AllocError> {
+    match beside {
+        None => Ok(Ty::Named(index)),
+        Some(label) => ty(alloc, &[Alt, Named(index), Element(label), Nothing]),
+    }
+}
+
+// The definitions 0 = 1, 1 = 2 and so on, or 0 = 1|b[], 1 = 2|b[] and so on, to a last one, a[].
+fn chain(
+    rt: &impl Abort,
+    alloc: Global,
+    names: &mut Names,
+    last: Name,
+    beside: Option<Name>,
+) -> Result<Defs, Fail> {
+    let mut draft = declare_many(rt, alloc, names, CHAIN)?;
+    for index in 1..CHAIN {
+        set(
+            rt,
+            &mut draft,
+            CHAIN,
+            index - 1,
+            link(alloc, index, beside)?,
+        )?;
+    }
+    let body = ty(alloc, &[Element(last), Nothing])?;
+    set(rt, &mut draft, CHAIN, CHAIN - 1, body)?;
+    Ok(draft.close()?)
 }
 
 #[test]
-fn contents(rt: HostRuntime) -> Result<(), Fail> {
+fn chains_of_names(rt: HostRuntime) -> Result<(), Fail> {
     let alloc = rt.alloc();
-    let at = make_scene(&rt, alloc)?;
-    // a[b[]|c[]] and a[b[]]|a[c[]]
-    let inside = [
-        Element(at.a),
-        Alt,
-        Element(at.b),
-        Nothing,
-        Element(at.c),
-        Nothing,
-    ];
-    let outside = [
-        Alt,
-        Element(at.a),
-        Element(at.b),
-        Nothing,
-        Element(at.a),
-        Element(at.c),
-        Nothing,
-    ];
-    assert_both(&rt, alloc, &at.defs, &inside, &outside, (true, true))?;
-    // a[(b[]|c[])*] and a[b[]*]|a[c[]*]
-    let mixed = [
-        Element(at.a),
-        Star,
-        Alt,
-        Element(at.b),
-        Nothing,
-        Element(at.c),
-        Nothing,
-    ];
-    let apart = [
-        Alt,
-        Element(at.a),
-        Star,
-        Element(at.b),
-        Nothing,
-        Element(at.a),
-        Star,
-        Element(at.c),
-        Nothing,
-    ];
-    assert_both(&rt, alloc, &at.defs, &mixed, &apart, (false, true))?;
-    // a[b[c[]]] and a[b[]]
-    let deep = [Element(at.a), Element(at.b), Element(at.c), Nothing];
-    assert_both(
-        &rt,
-        alloc,
-        &at.defs,
-        &deep,
-        &[Element(at.a), Element(at.b), Nothing],
-        (false, false),
-    )
-}
-
-#[test]
-fn types_with_no_member(rt: HostRuntime) -> Result<(), Fail> {
-    let alloc = rt.alloc();
-    let at = make_scene(&rt, alloc)?;
-    assert_both(&rt, alloc, &at.defs, &[Named(2)], &[Nothing], (true, false))?;
-    let deep = [Element(at.c), Named(2)];
-    assert_both(&rt, alloc, &at.defs, &deep, &[Named(2)], (true, true))?;
-    assert_both(&rt, alloc, &at.defs, &[Named(2)], &[TRUTH], (true, false))
-}
-
-#[test]
-fn names(rt: HostRuntime) -> Result<(), Fail> {
-    let alloc = rt.alloc();
-    let at = make_scene(&rt, alloc)?;
-    // a[]|b[] and its name
-    let either = [Alt, Element(at.a), Nothing, Element(at.b), Nothing];
-    assert_both(&rt, alloc, &at.defs, &either, &[Named(3)], (true, true))?;
-    assert_both(&rt, alloc, &at.defs, &[Named(0)], &[Named(1)], (true, true))?;
-    assert_both(
-        &rt,
-        alloc,
-        &at.defs,
-        &[Named(0)],
-        &[Named(3)],
-        (false, false),
-    )
-}
-
-#[test]
-fn atoms(rt: HostRuntime) -> Result<(), Fail> {
-    let alloc = rt.alloc();
-    let at = make_scene(&rt, alloc)?;
-    assert_both(
-        &rt,
-        alloc,
-        &at.defs,
-        &[Alt, TEXT, TRUTH],
-        &[TEXT],
-        (false, true),
-    )?;
-    assert_both(
-        &rt,
-        alloc,
-        &at.defs,
-        &[Alt, TEXT, TRUTH],
-        &[Alt, TRUTH, TEXT],
-        (true, true),
-    )?;
-    // string,bool and bool,string
-    assert_both(
-        &rt,
-        alloc,
-        &at.defs,
-        &[Seq, TEXT, TRUTH],
-        &[Seq, TRUTH, TEXT],
-        (false, false),
-    )
+    let mut names = Names::new(alloc);
+    let a = label(&rt, &mut names, "a")?;
+    let b = label(&rt, &mut names, "b")?;
+    let head = Ty::Named(0);
+    let last = ty(alloc, &[Element(a), Nothing])?;
+    let plain = chain(&rt, alloc, &mut names, a, None)?;
+    assert_included(&rt, alloc, &plain, &head, &last, true)?;
+    assert_included(&rt, alloc, &plain, &last, &head, true)?;
+    let choices = chain(&rt, alloc, &mut names, a, Some(b))?;
+    assert_included(&rt, alloc, &choices, &head, &last, false)?;
+    assert_included(&rt, alloc, &choices, &last, &head, true)
 }
