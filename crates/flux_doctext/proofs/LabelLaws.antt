@@ -143,7 +143,7 @@ with_text_more names text = by (list_any (bytes_eq text) names)
     by true = ([], sym (append-nil names))
     by false = (text ∷ [], refl)
 
-learnt_more : (names texts : List (List ℕ)) → (others : List (List ℕ)) × (learnt names texts ≡ names ++ others)
+pub learnt_more : (names texts : List (List ℕ)) → (others : List (List ℕ)) × (learnt names texts ≡ names ++ others)
 learnt_more names [] = ([], sym (append-nil names))
 learnt_more names (text ∷ texts) =
     let one = with_text_more names text in

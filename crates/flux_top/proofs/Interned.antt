@@ -5,7 +5,7 @@ use Rattle.std.specs.List.{list_any}
 use Rattle.std.proofs.Math.ListN.{get_or}
 use Rattle.std.proofs.lemmas.List.{length-append, length-map, append-nil, map-append, take_more, get_or-map}
 use Rattle.std.proofs.lemmas.Option.{slice_get_within}
-use Rattle.std.proofs.lemmas.List.Elements.{All-append, All-cons, All-nil}
+use Rattle.std.proofs.lemmas.List.Elements.{All-append, All-cons, All-nil, All-head, All-tail}
 use Rattle.flux_atom.specs.Names.{with_text}
 use Rattle.flux_doctext.specs.Text.{name_text}
 use Rattle.flux_top.proofs.Held.{held}
@@ -28,17 +28,11 @@ with_text-grows names t = by (list_any (bytes_eq t) names)
     by true = ([], sym (append-nil names), omega arith)
     by false = (t ∷ [], refl, omega arith)
 
-all_first : {X : Type 0} (P : X → Type 0) (x : X) (xs : List X) → All P (x ∷ xs) → P x
-all_first P x xs a = a 0 x (omega arith)
-
-all_rest : {X : Type 0} (P : X → Type 0) (x : X) (xs : List X) → All P (x ∷ xs) → All P xs
-all_rest P x xs a k d below = a (suc k) d (omega arith)
-
 -- the texts of names stay the same in a table with more names behind
 pub path-more : (names more : List (List ℕ)) (path : List ℕ) → Within names path → map (name_text (names ++ more)) path ≡ map (name_text names) path
 path-more names more [] within = refl
 path-more names more (a ∷ path) within =
-    ap₂ (λ t l. t ∷ l) (ap (λ o. unwrap_or o []) (slice_get-more names more a (all_first (λ b. b < length names) a path within))) (path-more names more path (all_rest (λ b. b < length names) a path within))
+    ap₂ (λ t l. t ∷ l) (ap (λ o. unwrap_or o []) (slice_get-more names more a (All-head (λ b. b < length names) a path within))) (path-more names more path (All-tail (λ b. b < length names) a path within))
 
 pub within-more : (names more : List (List ℕ)) (path : List ℕ) → Within names path → Within (names ++ more) path
 within-more names more path within k d below = omega (arith, length-append names more, within k d below)

@@ -7,5 +7,5 @@ pub mod Answering
 pub mod Pruned
 mod Reading
 pub mod Unique
-pub mod Places
+pub mod Positions
 pub mod Spelled

@@ -2,7 +2,7 @@
 use Rattle.std.proofs.Common.{◌≡◌, ◌≢◌, ◌<◌, ◌≤◌, ◌∙◌, inl, inr, refl, ap, sym, subst, ℕ, suc, Bool, true, false, not, List, [], ◌∷◌, ◌++◌, length, Bor, map, arith}
 use Rattle.std.specs.Prelude.{All, ◌==◌, codes, IsAscii, IsUtf8}
 use Rattle.std.specs.List.{join_with_byte, slice_split}
-use Rattle.std.proofs.lemmas.List.Elements.{All-cons, All-nil, All-append, All-map}
+use Rattle.std.proofs.lemmas.List.Elements.{All-cons, All-nil, All-append, All-map, All-head, All-tail}
 use Rattle.std.proofs.lemmas.List.Splits.{slice_split_none, slice_split_at, length-slice_split, join_with_byte-slice_split}
 use Rattle.std.proofs.lemmas.Bool.Decides.{nat_tests}
 use Rattle.std.proofs.lemmas.List.Sums.{AllPass-from_list_all}
@@ -27,12 +27,6 @@ continues_byte b is = record { ascii = grind (arith, nat_tests); no_slash = grin
 begins_byte : (b : ℕ) → begins_name b ≡ true → IsNameByte b
 begins_byte b is = record { ascii = grind (arith, nat_tests); no_slash = grind (arith, nat_tests); no_newline = grind (arith, nat_tests) }
 
-all_first : {X : Type 0} (P : X → Type 0) (x : X) (xs : List X) → All P (x ∷ xs) → P x
-all_first P x xs a = a 0 x (omega arith)
-
-all_rest : {X : Type 0} (P : X → Type 0) (x : X) (xs : List X) → All P (x ∷ xs) → All P xs
-all_rest P x xs a k d below = a (suc k) d (omega arith)
-
 name_bytes : (text : List ℕ) → IsName text → All IsNameByte text
 name_bytes [] is = absurd is
 name_bytes (b ∷ bs) is = All-cons IsNameByte b bs (begins_byte b is.0) (λ k d below. continues_byte _ (is.1 k d below))
@@ -40,10 +34,10 @@ name_bytes (b ∷ bs) is = All-cons IsNameByte b bs (begins_byte b is.0) (λ k d
 -- what holds of each byte of a name and of `/` holds of each byte of a path
 path_bytes : (P : ℕ → Type 0) → ((b : ℕ) → IsNameByte b → P b) → P 47 → (steps : List (List ℕ)) → All IsStep steps → All P (join_with_byte 47 steps)
 path_bytes P each slash [] all = All-nil P
-path_bytes P each slash (x ∷ []) all = λ k d below. each _ (name_bytes x (all_first IsStep x [] all).0.0 k d below)
+path_bytes P each slash (x ∷ []) all = λ k d below. each _ (name_bytes x (All-head IsStep x [] all).0.0 k d below)
 path_bytes P each slash (x ∷ y ∷ xs) all =
-    All-append P x (47 ∷ join_with_byte 47 (y ∷ xs)) (λ k d below. each _ (name_bytes x (all_first IsStep x (y ∷ xs) all).0.0 k d below))
-    (All-cons P 47 (join_with_byte 47 (y ∷ xs)) slash (path_bytes P each slash (y ∷ xs) (all_rest IsStep x (y ∷ xs) all)))
+    All-append P x (47 ∷ join_with_byte 47 (y ∷ xs)) (λ k d below. each _ (name_bytes x (All-head IsStep x (y ∷ xs) all).0.0 k d below))
+    (All-cons P 47 (join_with_byte 47 (y ∷ xs)) slash (path_bytes P each slash (y ∷ xs) (All-tail IsStep x (y ∷ xs) all)))
 
 pub path_ascii : (steps : List (List ℕ)) → All IsStep steps → IsAscii (join_with_byte 47 steps)
 path_ascii steps all = IsAscii-from_all (join_with_byte 47 steps) (path_bytes (λ b. b < 128) (λ b is. is.ascii) (omega arith) steps all)
@@ -51,10 +45,10 @@ path_ascii steps all = IsAscii-from_all (join_with_byte 47 steps) (path_bytes (�
 -- the steps are the parts between the slashes
 pub split_path : (steps : List (List ℕ)) → 1 ≤ length steps → All IsStep steps → slice_split (λ b. b == 47) (join_with_byte 47 steps) ≡ steps
 split_path [] some all = absurd (omega (arith, some))
-split_path (x ∷ []) some all = slice_split_none (λ b. b == 47) x (λ k d below. (name_bytes x (all_first IsStep x [] all).0.0 k d below).no_slash)
+split_path (x ∷ []) some all = slice_split_none (λ b. b == 47) x (λ k d below. (name_bytes x (All-head IsStep x [] all).0.0 k d below).no_slash)
 split_path (x ∷ y ∷ xs) some all =
-    slice_split_at (λ b. b == 47) x 47 (join_with_byte 47 (y ∷ xs)) (λ k d below. (name_bytes x (all_first IsStep x (y ∷ xs) all).0.0 k d below).no_slash) refl
-    ∙ ap (λ l. x ∷ l) (split_path (y ∷ xs) (omega arith) (all_rest IsStep x (y ∷ xs) all))
+    slice_split_at (λ b. b == 47) x 47 (join_with_byte 47 (y ∷ xs)) (λ k d below. (name_bytes x (All-head IsStep x (y ∷ xs) all).0.0 k d below).no_slash) refl
+    ∙ ap (λ l. x ∷ l) (split_path (y ∷ xs) (omega arith) (All-tail IsStep x (y ∷ xs) all))
 
 not_ended : (bytes : List ℕ) → All (λ b. (b == 10) ≡ false) bytes → ¬ (EndsInNewline bytes)
 not_ended bytes all (front, is) =
@@ -115,9 +109,9 @@ name_some (b ∷ bs) is = omega arith
 -- a path has no more steps than bytes
 path_length : (steps : List (List ℕ)) → All IsStep steps → length steps ≤ length (join_with_byte 47 steps)
 path_length [] all = omega arith
-path_length (x ∷ []) all = name_some x (all_first IsStep x [] all).0.0
+path_length (x ∷ []) all = name_some x (All-head IsStep x [] all).0.0
 path_length (x ∷ y ∷ xs) all =
-    omega (arith, length-append x (47 ∷ join_with_byte 47 (y ∷ xs)), path_length (y ∷ xs) (all_rest IsStep x (y ∷ xs) all))
+    omega (arith, length-append x (47 ∷ join_with_byte 47 (y ∷ xs)), path_length (y ∷ xs) (All-tail IsStep x (y ∷ xs) all))
 
 pub steps_length : (script : List ℕ) (steps : List (List ℕ)) → DeletesPath script steps → length steps ≤ length script
 steps_length script steps is = by is.line

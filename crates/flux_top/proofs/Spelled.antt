@@ -13,7 +13,8 @@ use Rattle.flux_doctext.specs.Text.{NamesLabel, name_text}
 use Rattle.flux_doctext.specs.Spells.{Part, whole, Spelled, none, some, nothing, something, last, more, element, atom, Spells}
 use Rattle.flux_doctext.proofs.Alike.{Alike, alike_nil, alike_elem, alike_leaf, alike_join}
 use Rattle.flux_doctext.specs.Labels.{learnt}
-use Rattle.flux_doctext.proofs.SpelledLaws.{spelled-more}
+use Rattle.flux_doctext.proofs.LabelLaws.{learnt_more}
+use Rattle.flux_doctext.proofs.SpelledLaws.{spelled-more, held_more}
 use Rattle.flux_doctext.proofs.ReadLaws.{spelled_once}
 use Rattle.flux_doctext.proofs.TextLaws.{slice_get-more, NamesLabel-found}
 use Rattle.flux_doctext.proofs.ViableLaws.{IsTable-with_text}
@@ -71,23 +72,13 @@ covered_table names [] table are = table
 covered_table names (t ∷ others) table are =
     covered_table (with_text names t) others (IsTable-with_text names t table (All-head IsName t others are)) (All-tail IsName t others are)
 
-covered_more : (names others : List (List ℕ)) → (behind : List (List ℕ)) × (learnt names others ≡ names ++ behind)
-covered_more names [] = ([], sym (append-nil names))
-covered_more names (t ∷ others) =
-    let first = with_text-grows names t in
-    let rest = covered_more (with_text names t) others in
-    (first.0 ++ rest.0, rest.1 ∙ ap (λ l. l ++ rest.0) first.1 ∙ append_assoc names first.0 rest.0)
-
-held_in_more : (names others : List (List ℕ)) (a : ℕ) (t : List ℕ) → slice_get names a ≡ Some t → slice_get (names ++ others) a ≡ Some t
-held_in_more names others a t at = slice_get-more names others a (slice_get_within names a t at) ∙ at
-
 covered_holds : (names others : List (List ℕ)) → Covers (learnt names others) others
 covered_holds names [] a t at = absurd cc
 covered_holds names (u ∷ others) zero t at =
     let held = with_text-holds names u in
-    let rest = covered_more (with_text names u) others in
+    let rest = learnt_more (with_text names u) others in
     let same : u ≡ t = cc in
-    (held.0, subst (λ l. slice_get l held.0 ≡ Some t) (sym rest.1) (held_in_more (with_text names u) rest.0 held.0 t (held.1 ∙ ap Some same)))
+    (held.0, subst (λ l. slice_get l held.0 ≡ Some t) (sym rest.1) (held_more (with_text names u) rest.0 held.0 t (held.1 ∙ ap Some same)))
 covered_holds names (u ∷ others) (suc a) t at = covered_holds (with_text names u) others a t at
 
 -- alike over a table with more names is alike over the table of the labels
@@ -95,7 +86,7 @@ alike_back : (names others behind : List (List ℕ)) {v w : Plain} → EachLabel
 alike_back names others behind labels alike_nil = alike_nil
 alike_back names others behind labels (alike_elem {a} same inside rest) =
     let at = NamesLabel-found names a labels.0 in
-    let kept : name_text (names ++ behind) a ≡ name_text names a = ap (λ o. unwrap_or o []) (held_in_more names behind a (name_text names a) at) in
+    let kept : name_text (names ++ behind) a ≡ name_text names a = ap (λ o. unwrap_or o []) (held_more names behind a (name_text names a) at) in
     alike_elem (sym kept ∙ same) (alike_back names others behind labels.1 inside) (alike_back names others behind labels.2 rest)
 alike_back names others behind labels (alike_leaf same rest) = alike_leaf same (alike_back names others behind labels rest)
 
@@ -103,7 +94,7 @@ alike_back names others behind labels (alike_leaf same rest) = alike_leaf same (
 pub spelled_alike : (names others : List (List ℕ)) (bytes : List ℕ) (v w : Plain) → Spells names bytes v → Spells others bytes w → Alike names others v w
 spelled_alike names others bytes v w is are =
     let big = learnt names others in
-    let grown = covered_more names others in
+    let grown = learnt_more names others in
     let table = covered_table names others is.table are.table.names in
     let over = spelled_over big others (covered_holds names others) are.forest in
     let again : Spelled big whole bytes v = subst (λ l. Spelled l whole bytes v) (sym grown.1) (spelled-more grown.0 is.forest) in

@@ -17,8 +17,8 @@ use Rattle.flux_doctext.proofs.TextLaws.{NamesLabel-found}
 use Rattle.flux_doctext.specs.Spells.{Spells, IsViable}
 use Rattle.flux_doctext.proofs.LabelLaws.{spelled_over}
 use Rattle.flux_top.proofs.Spelled.{spelled_alike}
-use Rattle.flux_top.proofs.Places.{position_one, longest_one}
-use Rattle.flux_top.specs.Places.{IsPosition}
+use Rattle.flux_top.proofs.Positions.{position_one, longest_one}
+use Rattle.flux_top.specs.Positions.{IsPosition}
 use Rattle.flux_calculus.specs.Derives.{Derives}
 use Rattle.flux_top.specs.Paths.{standard, delete_on}
 use Rattle.flux_calculus.proofs.Agree.{derives_one}

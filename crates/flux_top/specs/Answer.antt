@@ -10,7 +10,7 @@ use Rattle.flux_top.specs.Paths.{standard, delete_on}
 use Rattle.flux_top.specs.Words.{form}
 use Rattle.flux_top.specs.Lines.{status_of, line_of}
 use Rattle.flux_top.specs.Script.{DeletesPath}
-use Rattle.flux_top.specs.Places.{IsPosition}
+use Rattle.flux_top.specs.Positions.{IsPosition}
 use Rattle.flux_top.specs.declared.position.Position.{Position}
 use Rattle.flux_top.specs.declared.status.Status.{Status}
 use Rattle.flux_top.specs.declared.status.Status.TheVariants.{Done}

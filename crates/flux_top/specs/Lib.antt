@@ -1,5 +1,5 @@
 pub mod Script
-pub mod Places
+pub mod Positions
 pub mod Words
 pub mod Paths
 pub mod Lines

@@ -1,6 +1,6 @@
 // The line and the column of a place.
 ghost use Rattle.std.specs.Prelude.{◌-◌, ◌^◌, ◌<◌, ◌≤◌, length};
-ghost use Rattle.flux_top.specs.Places.{IsPosition};
+ghost use Rattle.flux_top.specs.Positions.{IsPosition};
 
 /// A place in a text, for a person: its line and its column, both from 1. A column is a byte.
 #[derive(Clone, Copy, Debug, PartialEq, Eq)]

@@ -1,5 +1,5 @@
 use Rattle.std.proofs.Common.{take, arith}
-use Rattle.flux_top.proofs.Places.{counted_none, counted_newline, counted_other, counted_fits, counted_all}
+use Rattle.flux_top.proofs.Positions.{counted_none, counted_newline, counted_other, counted_fits, counted_all}
 use Rattle.flux_top.proofs.position.position_of.Goals as goal
 use Rattle.flux_top.proofs.position.position_of.Goals.{then-byte-eq10, else-byte-eq10}
 

@@ -1,5 +1,5 @@
 use Rattle.std.proofs.Common.{take}
-use Rattle.flux_top.proofs.Places.{AreCounted}
+use Rattle.flux_top.proofs.Positions.{AreCounted}
 use Rattle.flux_top.proofs.position.position_of.Given as goal
 
 abbrev pub invariant-loop-byte : goal.invariant-loop-byte

@@ -9,7 +9,7 @@ use Rattle.std.proofs.lemmas.List.Sums.{count_by_more_yes, count_by_more_no}
 use Rattle.std.proofs.lemmas.Bool.{cases_lt}
 use Rattle.flux_atom.specs.Spelling.{IsLongest}
 use Rattle.flux_top.specs.Script.{EndsInNewline}
-use Rattle.flux_top.specs.Places.{is_newline, IsPosition}
+use Rattle.flux_top.specs.Positions.{is_newline, IsPosition}
 use Rattle.flux_top.specs.declared.position.Position.{Position}
 
 -- the column behind the bytes, where they begin in column c
