@@ -1,5 +1,5 @@
 -- What is written spells the forest that is derived.
-use Rattle.std.proofs.Common.{◌≡◌, refl, List, [], ◌∷◌, ◌++◌, Option, Some, None}
+use Rattle.std.proofs.Common.{◌≡◌, refl, ℕ, List, [], ◌∷◌, ◌++◌, Option, Some, None}
 use Rattle.std.specs.Prelude.{IfSome}
 use Rattle.std.specs.Io.KnownBytes.{append_known}
 use Rattle.flux_io.specs.Outside.{Held}
@@ -7,7 +7,7 @@ use Rattle.flux_doctext.specs.Text.{text, NamesLabel, IsProper}
 use Rattle.flux_doctext.proofs.LabelLaws.{spelled_over}
 use Rattle.flux_doctext.proofs.CanonicalLaws.{text_spells}
 use Rattle.flux_top.specs.Answer.{Answer, done}
-use Rattle.flux_top.specs.Clauses.{IsOutput, Writes, IsTextOfResult, ReadsBack}
+use Rattle.flux_top.specs.Clauses.{IsOutput, IsTextOfResult, ReadsBack}
 use Rattle.flux_top.specs.declared.status.Status.TheVariants.{Done}
 use Rattle.flux_top.proofs.Kept.{deletion_holds}
 
@@ -30,6 +30,6 @@ answer_reads_back held words _ _ (done {document} {names} path {v} {w} asked nam
       spells = text_spells names w over.table kept.0 kept.1;
     }
 
-pub reads_back : (holds : Option Held) (words : List (List ℕ)) (old new : Option (List ℕ)) → Writes (IsOutput holds words) old new Done → ReadsBack holds words old new
-reads_back None words old new w = tt
-reads_back (Some held) words old new (output, (line, answer), grown) = (output, answer_reads_back held words output line answer, grown)
+pub reads_back : (holds : Option Held) (words : List (List ℕ)) (old new : Option (List ℕ)) (output : List ℕ) → IsOutput holds words output → new ≡ append_known old output → ReadsBack holds words old new
+reads_back None words old new output is grown = tt
+reads_back (Some held) words old new output (line, answer) grown = (output, answer_reads_back held words output line answer, grown)

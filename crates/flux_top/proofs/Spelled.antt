@@ -13,7 +13,7 @@ use Rattle.flux_doctext.specs.Text.{NamesLabel, name_text}
 use Rattle.flux_doctext.specs.Spells.{Part, whole, Spelled, none, some, nothing, something, last, more, element, atom, Spells}
 use Rattle.flux_doctext.proofs.Alike.{Alike, alike_nil, alike_elem, alike_leaf, alike_join}
 use Rattle.flux_doctext.specs.Labels.{learnt}
-use Rattle.flux_doctext.proofs.LabelLaws.{learnt_more}
+use Rattle.flux_doctext.proofs.LabelLaws.{learnt_more, spelled_labels}
 use Rattle.flux_doctext.proofs.SpelledLaws.{spelled-more, held_more}
 use Rattle.flux_doctext.proofs.ReadLaws.{spelled_once}
 use Rattle.flux_doctext.proofs.TextLaws.{slice_get-more, NamesLabel-found}
@@ -100,4 +100,4 @@ spelled_alike names others bytes v w is are =
     let again : Spelled big whole bytes v = subst (λ l. Spelled l whole bytes v) (sym grown.1) (spelled-more grown.0 is.forest) in
     let same : over.0 ≡ v = spelled_once big bytes over.0 v table over.1 again in
     let alike : Alike (names ++ grown.0) others v w = subst (λ l. Alike l others v w) grown.1 (subst (λ h. Alike big others h w) same over.2) in
-    alike_back names others grown.0 (labels_of names is.forest) alike
+    alike_back names others grown.0 (spelled_labels is.forest) alike

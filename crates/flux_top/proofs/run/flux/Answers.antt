@@ -1,10 +1,13 @@
-use Rattle.std.proofs.Common.{◌≡◌, ◌⊎◌, inl, inr, subst}
+use Rattle.std.proofs.Common.{◌≡◌, ◌⊎◌, ◌∙◌, ap, inl, inr, subst}
+use Rattle.std.specs.Io.KnownBytes.{append_known}
 use Rattle.flux_io.specs.Outside.{Rose}
 use Rattle.flux_top.specs.Words.{texts}
 use Rattle.flux_top.specs.declared.status.Status.{Status}
 use Rattle.flux_top.specs.declared.status.Status.TheVariants.{Memory}
 use Rattle.flux_top.specs.Prepare.{IsEarlyRefusal}
 use Rattle.flux_top.proofs.Answering.{ended_status, ended_lacking, ended_complete}
+use Rattle.flux_top.specs.Clauses.{IsOutput}
+use Rattle.flux_top.proofs.Reading.{reads_back}
 use Rattle.flux_top.proofs.run.flux.Goals as goal
 use Rattle.flux_top.proofs.run.flux.Goals.{After-refuse}
 
@@ -29,5 +32,9 @@ pub returns-in-Err-clause-complete : goal.returns-in-Err-clause-complete
 returns-in-Err-clause-complete g c =
     ended_complete (texts c.args.words.now.items) _ _ c.in-Err.refusal _ (kept _ _ _ c.refuse.ensures.status) _ (early g c)
 
-pub returns-in-Ok-clause-reads_back : goal.returns-in-Ok-clause-reads_back
-returns-in-Ok-clause-reads_back g c = ?
+pub returns-in-Ok-write_all-clause-reads_back : goal.returns-in-Ok-write_all-clause-reads_back
+returns-in-Ok-write_all-clause-reads_back g c = λ done.
+    let holds = g.F.Folder.holds c.args.folder.now in
+    let is = subst (λ l. IsOutput holds (texts l) c.in-Ok.output.items) c.as_slice.ensures.value c.in-Ok.ensures.output in
+    let grown = c.in-Ok-write_all.ensures.whole ∙ ap (append_known (g.W.Sink.written c.args.out.now)) c.as_slice-2.ensures.value in
+    reads_back holds (texts c.args.words.now.items) _ _ c.in-Ok.output.items is grown
