@@ -12,7 +12,7 @@ use Rattle.flux_auto.specs.declared.auto.Added.{Added}
 use Rattle.flux_auto.specs.Takes.{takes}
 use Rattle.flux_auto.specs.Automaton.{TakesMembers, IsSomeMember}
 use Rattle.flux_auto.specs.Standing.{at, lists, Ready, IsContent}
-use Rattle.flux_auto.specs.Built.{states_of, Grows, IsClosed, IsComplete, Extended}
+use Rattle.flux_auto.specs.Built.{states_of, Grows, IsClosed, Extended}
 use Rattle.flux_auto.specs.Shown.{shown, IsRight}
 use Rattle.flux_auto.specs.Witness.{IsTakenBy}
 use Rattle.flux_auto.proofs.Items.{some_is, get-append, get-end}

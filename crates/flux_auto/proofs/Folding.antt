@@ -1,16 +1,13 @@
 -- The profile of a forest, from its last tree to its first.
-use Rattle.std.proofs.Common.{◌≡◌, ℕ, ◌+◌, ◌*◌, ◌<◌, List, [], ◌∷◌, ◌++◌, Bool, length, take, get_or, map, refl, sym, ap, ap₂, subst, ◌∙◌, arith, append_assoc}
-use Rattle.std.proofs.lemmas.List.{map_push, take_more}
+use Rattle.std.proofs.Common.{◌≡◌, ℕ, ◌+◌, ◌*◌, ◌<◌, List, [], ◌∷◌, ◌++◌, Bool, length, map, refl, sym, ap, ap₂, subst, ◌∙◌, arith}
+use Rattle.std.proofs.lemmas.List.{map_push}
 use Rattle.flux_atom.specs.declared.atom.Atom.{Atom as Value}
 use Rattle.flux_atom.specs.Atom.{kind_of}
-use Rattle.flux_trees.specs.Hedge.{Plain, nil, elem, leaf, size, trees, first, others, content, IsElement}
-use Rattle.flux_trees.proofs.HedgeLaws.{trees-first}
+use Rattle.flux_trees.specs.Hedge.{Plain, nil, elem, leaf, size, trees, others, content, IsElement}
 use Rattle.flux_forest.specs.declared.view.View.{View}
 use Rattle.flux_forest.specs.View.{forest_of}
-use Rattle.flux_auto.specs.declared.table.Row.{Row}
 use Rattle.flux_auto.specs.declared.run.Open.{Open}
 use Rattle.flux_auto.specs.Takes.{State, profile, profile_nil, profile_element, profile_atom}
-use Rattle.flux_auto.specs.Built.{state_of}
 
 -- ---- a loop over rows
 

@@ -1,5 +1,5 @@
 -- Tables that are begun, and made longer by types.
-use Rattle.std.proofs.Common.{◌≡◌, ℕ, zero, suc, ◌+◌, ◌<◌, ◌≤◌, List, [], ◌∷◌, ◌++◌, Bool, true, length, take, Some, slice_get, Result, Ok, Err, OnErr, refl, sym, ap, ap₂, subst, ◌∙◌, inl, inr, arith}
+use Rattle.std.proofs.Common.{◌≡◌, ℕ, suc, ◌+◌, ◌<◌, ◌≤◌, List, [], ◌∷◌, ◌++◌, Bool, true, length, take, Some, slice_get, Result, Ok, Err, OnErr, refl, sym, ap, ap₂, subst, ◌∙◌, inl, inr, arith}
 use Rattle.std.proofs.lemmas.Option.{slice_get_within}
 use Rattle.flux_trees.specs.Hedge.{nil}
 use Rattle.flux_schema.specs.Ty.{Ty, empty, NamesBelow}
@@ -14,7 +14,7 @@ use Rattle.flux_auto.specs.Built.{Grows, Put, IsEven, IsGround, IsClosed, FreshF
 use Rattle.flux_auto.proofs.Lists.{end-in, in-end}
 use Rattle.flux_auto.proofs.Items.{some_is}
 use Rattle.flux_auto.proofs.Tables.{at-grows, IsContent-grows}
-use Rattle.flux_auto.proofs.Growing.{below_or_not, grows_by, grows_same, grows-length, carried}
+use Rattle.flux_auto.proofs.Growing.{below_or_not, grows_by, grows_same, carried}
 use Rattle.flux_auto.proofs.Contents.{fresh_on}
 use Rattle.flux_auto.proofs.Reading.{ground_on, ready_on}
 use Rattle.flux_auto.proofs.Closing.{closed_carried}

@@ -2,7 +2,7 @@
 use Rattle.std.proofs.Common.{◌≡◌, ℕ, zero, suc, ◌+◌, ◌*◌, ◌<◌, ◌≤◌, ◌⊎◌, [], ◌∷◌, Some, max, refl, inl, inr, arith}
 use Rattle.std.proofs.Math.Nat.{mul-le-mul_right}
 use Rattle.flux_schema.specs.Ty.{Ty, empty, atom, element, seq, alt, star, named, size}
-use Rattle.flux_schema.specs.Definitions.{Definitions, body_of, StandsIn, IsGood}
+use Rattle.flux_schema.specs.Definitions.{Definitions, body_of, StandsIn}
 use Rattle.flux_schema.proofs.Ranks.{rank_of, rank-falls}
 use Rattle.flux_auto.specs.Pending.{effort, IsEffort}
 

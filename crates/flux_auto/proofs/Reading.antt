@@ -19,7 +19,7 @@ use Rattle.flux_auto.proofs.Lists.{empties-sound, empties-complete, starts-empty
 use Rattle.flux_auto.proofs.Items.{some_is, get-append, get-end}
 use Rattle.flux_auto.proofs.Tables.{at-grows, at-cell, edges-append, any-left, any-right, any-cases, Reads-grows, IsOwn-grows, Ready-grows}
 use Rattle.flux_auto.proofs.Growing.{below_or_not, grows-length, carried}
-use Rattle.flux_auto.proofs.Contents.{put-cell, put-even}
+use Rattle.flux_auto.proofs.Contents.{put-cell}
 
 module _ (defs : Definitions) where
   -- ---- what grows

@@ -1,5 +1,5 @@
 -- The laws of recipes, and of the search for a forest of each state.
-use Rattle.std.proofs.Common.{◌≡◌, ◌⊎◌, ℕ, zero, suc, ◌+◌, ◌<◌, ◌≤◌, List, [], ◌∷◌, ◌++◌, Bool, true, false, ◌&&◌, ◌||◌, ◌==◌, Option, Some, None, length, map, slice_get, IsTrue, option_and_then, refl, sym, ap, ap₂, subst, ◌∙◌, inl, inr, arith, append_assoc, length-append}
+use Rattle.std.proofs.Common.{◌≡◌, ◌⊎◌, ℕ, zero, suc, ◌+◌, ◌<◌, ◌≤◌, List, [], ◌∷◌, ◌++◌, Bool, true, false, ◌&&◌, ◌||◌, ◌==◌, Option, Some, None, length, map, slice_get, option_and_then, refl, sym, ap, ap₂, subst, ◌∙◌, inl, inr, arith, append_assoc, length-append}
 use Rattle.std.specs.List.{list_any}
 use Rattle.std.specs.Option.{option_map, is_some}
 use Rattle.std.proofs.lemmas.Bool.{eq-eqb}
@@ -23,7 +23,7 @@ use Rattle.flux_auto.specs.declared.witness.Recipe.TheVariants.{End, Atom, Elem}
 use Rattle.flux_auto.specs.declared.witness.Witnesses.{Witnesses}
 use Rattle.flux_auto.specs.Takes.{State, has, goes_by_element, goes_by_atom, profile, takes}
 use Rattle.flux_auto.specs.Built.{state_of}
-use Rattle.flux_auto.specs.Witness.{sample, forest_at, made, forests_after, forests, IsOlder, AreOlder, place, recipe_by, IsRecipe, Lacks, unplaced, Knows, Settled, Tried, Round, IsTakenBy}
+use Rattle.flux_auto.specs.Witness.{sample, forest_at, made, forests_after, forests, IsOlder, place, recipe_by, IsRecipe, unplaced, Knows, Settled, Tried, IsTakenBy}
 use Rattle.flux_auto.proofs.Items.{some_is, get-append, get-end, split_at}
 use Rattle.flux_auto.proofs.Growing.{below_or_not}
 use Rattle.flux_auto.proofs.Meaning.{got, has-map}

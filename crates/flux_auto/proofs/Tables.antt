@@ -1,6 +1,5 @@
 -- What states stand for stays as states are put at the end.
-use Rattle.std.proofs.Common.{◌≡◌, ℕ, zero, suc, ◌+◌, ◌<◌, ◌≤◌, ◌⊎◌, List, [], ◌∷◌, ◌++◌, length, Some, slice_get, refl, sym, ap, subst, ◌∙◌, inl, inr, arith, append_assoc, length-append}
-use Rattle.std.proofs.Math.ListN.{set}
+use Rattle.std.proofs.Common.{◌≡◌, ℕ, ◌+◌, ◌<◌, ◌≤◌, ◌⊎◌, List, [], ◌∷◌, ◌++◌, length, Some, slice_get, refl, sym, ap, subst, ◌∙◌, inl, inr, arith, append_assoc, length-append}
 use Rattle.std.proofs.lemmas.List.{append-nil}
 use Rattle.std.proofs.lemmas.Option.{slice_get_within}
 use Rattle.flux_trees.specs.Hedge.{Plain, nil, elem, leaf}
@@ -12,7 +11,7 @@ use Rattle.flux_auto.specs.declared.edge.Edge.TheVariants.{Atom, Elem}
 use Rattle.flux_auto.specs.declared.table.Cell.{Cell}
 use Rattle.flux_auto.specs.declared.table.Row.{Row}
 use Rattle.flux_auto.specs.Takes.{EdgeBelow, EdgesBelow}
-use Rattle.flux_auto.specs.Standing.{In, list_of, at, lists_after, lists, Follows, FollowsAny, Starts, IsContent, Ready, BodiesReady, Reads}
+use Rattle.flux_auto.specs.Standing.{In, list_of, at, lists_after, lists, Follows, FollowsAny, Starts, IsContent, Ready, Reads}
 use Rattle.flux_auto.specs.Built.{IsOwn, IsClosed, IsFresh}
 use Rattle.flux_auto.proofs.Items.{get-append, get-end, split_at}
 

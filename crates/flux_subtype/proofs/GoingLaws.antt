@@ -1,12 +1,11 @@
 -- A state takes a forest that isn't empty exactly where it goes by the first tree to a state that
 -- takes the others.
-use Rattle.std.proofs.Common.{◌≡◌, ◌↔◌, ℕ, zero, suc, ◌&&◌, ◌||◌, ◌==◌, List, [], ◌∷◌, map, Bool, true, false, Some, slice_get, refl, sym, ap, ap₂, subst, ◌∙◌, inl, inr}
+use Rattle.std.proofs.Common.{◌≡◌, ◌↔◌, ℕ, zero, suc, ◌||◌, ◌==◌, List, [], ◌∷◌, map, Bool, true, false, Some, slice_get, refl, sym, ap, subst, ◌∙◌, inl, inr}
 use Rattle.std.specs.List.{list_any}
 use Rattle.std.proofs.lemmas.Bool.Decides.{eqb_tells}
 use Rattle.std.proofs.lemmas.Map.Keys.{any_passes_from_place}
 use Rattle.std.specs.Cmp.Derive.{both_true as two}
 use Rattle.flux_atom.specs.declared.atom.AtomKind.{AtomKind}
-use Rattle.flux_atom.specs.declared.atom.AtomKind.TheVariants as kind
 use Rattle.flux_atom.specs.Atom.{kind_of}
 use Rattle.flux_trees.specs.Hedge.{Plain, nil, elem, leaf, others}
 use Rattle.flux_schema.specs.Tidy.{same_kind}

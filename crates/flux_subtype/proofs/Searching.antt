@@ -1,5 +1,5 @@
 -- The search, from its beginning to its answer.
-use Rattle.std.proofs.Common.{◌≡◌, ◌⊎◌, ℕ, zero, suc, ◌<◌, ◌≤◌, List, [], length, Bool, true, false, Option, Some, None, slice_get, refl, sym, subst, ◌∙◌, inl, inr, arith}
+use Rattle.std.proofs.Common.{◌≡◌, ℕ, ◌<◌, ◌≤◌, List, [], length, Bool, true, false, Option, Some, None, slice_get, refl, sym, subst, ◌∙◌, inl, inr, arith}
 use Rattle.std.proofs.lemmas.Bool.{false_from_ne_true}
 use Rattle.flux_atom.specs.declared.atom.AtomKind.TheVariants as kind
 use Rattle.flux_trees.specs.Hedge.{Plain, nil}

@@ -1,4 +1,4 @@
-use Rattle.std.proofs.Common.{◌≡◌, ◌∙◌, sym, ap, refl, subst, [], ◌∷◌, ◌++◌, length, true}
+use Rattle.std.proofs.Common.{◌∙◌, sym, ap, refl, subst, [], ◌∷◌, ◌++◌, length, true}
 use Rattle.std.proofs.lemmas.List.{append-nil}
 use Rattle.flux_schema.specs.Ty.{Ty, empty, atom, element, seq, alt, star, named}
 use Rattle.flux_types.specs.Read.{ty_of}
