@@ -56,6 +56,7 @@ build() {
         (cd "$crates/$crate" && rt lib) >"$log" 2>&1 || fail "$log"
     done
     echo "flux: building flux_main ($total of $total)" >&2
+    rm -f "$program"
     # this runs it once without words, by which it only shows its usage
     (cd "$crates/flux_main" && rt run) >"$log" 2>&1
     [ -x "$program" ] || fail "$log"
