@@ -22,11 +22,11 @@ module _ (defs : Definitions) (R : Ty → Outcome → Type 0) (at : ℕ) (whole 
   -- what comes of the whole from a tree, which can be used, or from the end, comes of the type
   abbrev pub TurnLeads : List Frame → Turn → Type 0
   TurnLeads fs (At a) = IsAtomic (ty_of a) × IsUsable defs (ty_of a) × Leads defs R at whole (before fs (ty_of a))
-  TurnLeads fs (Over m) = Leads defs R at whole (behind [] (ty_of m.ty))
+  TurnLeads fs (Over m) = Leads defs R at whole (behind [] (ty_of m.ty.value))
 
   turn_leads : (p : Position) (fs : List Frame) (turn : Turn) → Leads defs R at whole p → IsTurn defs at p fs (Ok turn) → TurnLeads fs turn
   turn_leads p fs (At a) l h = (h.atomic, h.usable, leads_on defs R at whole p (before fs (ty_of a)) l h.walk)
-  turn_leads p fs (Over m) l h = leads_on defs R at whole p (behind [] (ty_of m.ty)) l h
+  turn_leads p fs (Over m) l h = leads_on defs R at whole p (behind [] (ty_of m.ty.value)) l h
 
   turn_as : (defs' : Definitions) (at' : ℕ) (p : Position) (fs : List Frame) (r : Result Turn KindFault) → defs' ≡ defs → at' ≡ at → IsTurn defs' at' p fs r → IsTurn defs at p fs r
   turn_as defs' at' p fs r e f h =
@@ -67,8 +67,8 @@ module _ (defs : Definitions) (R : Ty → Outcome → Type 0) (at : ℕ) (whole 
   pub turn_at : (fs : List Frame) (turn : Turn) (a : Tree) → turn ≡ At a → TurnLeads fs turn → TurnLeads fs (At a)
   turn_at fs turn a e h = let P : Turn → Type 0 = λ t. TurnLeads fs t in subst P e h
 
-  pub turn_over : (fs : List Frame) (turn : Turn) (m : Measured) → turn ≡ Over m → TurnLeads fs turn → Mapped defs R at whole (typed (ty_of m.ty))
-  turn_over fs turn m e h = let P : Turn → Type 0 = λ t. TurnLeads fs t in leads_end defs R at whole (ty_of m.ty) (subst P e h)
+  pub turn_over : (fs : List Frame) (turn : Turn) (m : Measured) → turn ≡ Over m → TurnLeads fs turn → Mapped defs R at whole (typed (ty_of m.ty.value))
+  turn_over fs turn m e h = let P : Turn → Type 0 = λ t. TurnLeads fs t in leads_end defs R at whole (ty_of m.ty.value) (subst P e h)
 
 -- ---- fewer steps
 

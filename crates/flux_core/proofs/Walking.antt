@@ -183,7 +183,7 @@ module _ (defs : Definitions) where
   pub up_next : (at : ℕ) (f : Frame) (u : Ty) (x : Up) (g : Kept) (t : Tree) → x ≡ Next g t → GoesUp at f u (Ok x) → Turns f u (frame_of g) (ty_of t)
   up_next at f u x g t e h = let P : Up → Type 0 = λ x. GoesUp at f u (Ok x) in subst P e h
 
-  pub up_whole : (at : ℕ) (f : Frame) (u : Ty) (x : Up) (m : Measured) → x ≡ Whole m → GoesUp at f u (Ok x) → Concludes f u (ty_of m.ty)
+  pub up_whole : (at : ℕ) (f : Frame) (u : Ty) (x : Up) (m : Measured) → x ≡ Whole m → GoesUp at f u (Ok x) → Concludes f u (ty_of m.ty.value)
   up_whole at f u x m e h = let P : Up → Type 0 = λ x. GoesUp at f u (Ok x) in subst P e h
 
   pub down_some : (p : Position) (fs : List Frame) (o : Option Tree) (a : Tree) → o ≡ Some a → GoesDown defs p fs o → ReachesTree defs p fs (ty_of a)

@@ -10,7 +10,7 @@ use Rattle.flux_core.specs.Faults.{IsFault}
 
 -- the outcome is this type or this fault
 abbrev pub IsAnswer : Definitions → (Outcome → Type 0) → Result Measured KindFault → Type 0
-IsAnswer defs Comes (Ok made) = Comes (typed (ty_of made.ty))
+IsAnswer defs Comes (Ok made) = Comes (typed (ty_of made.ty.value))
 IsAnswer defs Comes (Err fault) = IsFault defs Comes fault
 
 -- the type is concluded, or it is too large

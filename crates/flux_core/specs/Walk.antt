@@ -97,9 +97,9 @@ AreToBeUsed defs (inside_star ∷ fs) = AreToBeUsed defs fs
 -- the frame that a Rust value spells
 abbrev pub frame_of : Kept → Frame
 frame_of (SeqFirst second) = first_of_seq (ty_of second)
-frame_of (SeqSecond first) = second_of_seq (ty_of first.ty)
+frame_of (SeqSecond first) = second_of_seq (ty_of first.ty.value)
 frame_of (AltFirst second) = first_of_alt (ty_of second)
-frame_of (AltSecond first) = second_of_alt (ty_of first.ty)
+frame_of (AltSecond first) = second_of_alt (ty_of first.ty.value)
 frame_of InStar = inside_star
 
 -- the last comes first
@@ -118,12 +118,12 @@ GoesDown defs p fs None = Walks defs p (behind fs empty)
 -- up from a part in a frame: to the second part, or out of the type
 abbrev pub GoesUp : ℕ → Frame → Ty → Result Up KindFault → Type 0
 GoesUp at f u (Ok (Next frame t)) = Turns f u (frame_of frame) (ty_of t)
-GoesUp at f u (Ok (Whole made)) = Concludes f u (ty_of made.ty)
+GoesUp at f u (Ok (Whole made)) = Concludes f u (ty_of made.ty.value)
 GoesUp at f u (Err fault) =
     IsFault [] (λ o. (t : Ty) × Concludes f u t × (concluded at t ≡ o)) fault
 
 -- a turn of a walk from a position: at a tree, at the end, or at a type that is too large
 abbrev pub IsTurn : Definitions → ℕ → Position → List Frame → Result Turn KindFault → Type 0
 IsTurn defs at p fs (Ok (At a)) = ReachesTree defs p fs (ty_of a)
-IsTurn defs at p fs (Ok (Over made)) = Walks defs p (behind [] (ty_of made.ty))
+IsTurn defs at p fs (Ok (Over made)) = Walks defs p (behind [] (ty_of made.ty.value))
 IsTurn defs at p fs (Err fault) = IsFault defs (ComesTo defs at p) fault

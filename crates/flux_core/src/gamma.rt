@@ -1,9 +1,13 @@
 // Variables and their types.
-ghost use Rattle.std.specs.Prelude.{◌≡◌, ◌<◌, ◌∷◌, [], length, drop, Some, None, OnOk, OnErr, IfSome, IfNone};
-ghost use Rattle.flux_calculus.specs.Query.{found, same_var};
+ghost use Rattle.std.specs.Prelude.{◌≡◌, ◌<◌, ◌∷◌, [], length, drop, Some, None, OnOk, OnErr, IfOk, IfSome, IfNone};
+ghost use Rattle.std.specs.Option.{option_map};
+ghost use Rattle.flux_schema.specs.Ty.{IsWithinLimits};
+ghost use Rattle.flux_calculus.specs.Query.{found};
 ghost use Rattle.flux_types.specs.Read.{ty_of};
 ghost use Rattle.flux_core.specs.Contexts.{context_of};
 
+use crate::Measured;
+use crate::binding::{Binding, counted, shared};
 use flux_calculus::Var;
 use flux_types::Ty;
 use std::alloc::{AllocError, Global};
@@ -16,18 +20,10 @@ pub struct Param {
     pub ty: Ty,
 }
 
-impl Param {
-    fn is_of(&self, var: &Var) -> bool
-        ensures { result ≡ same_var self.now.var var.now }
-    {
-        self.var == *var
-    }
-}
-
 /// Variables, each with a type. Contracts see them as pairs, the last bound first.
 #[derive(Drop)]
 pub struct Gamma {
-    params: Vec<Param>,
+    bindings: Vec<Binding>,
 }
 
 impl Model for Gamma {
@@ -40,7 +36,7 @@ impl Model for Gamma {
 
     ghost use Rattle.flux_core.specs.Contexts.{context_of};
 
-    ghost view = { λ g. context_of g.params.items };
+    ghost view = { λ g. context_of g.bindings.items };
 }
 
 impl Gamma {
@@ -49,17 +45,29 @@ impl Gamma {
         ensures { result ≡ [] }
     {
         Gamma {
-            params: Vec::new(alloc),
+            bindings: Vec::new(alloc),
         }
     }
 
-    /// Binds a variable, which hides what was bound to it before. Where memory is wanting, the
+    /// Binds a variable, which hides what was bound to it before. The nodes and levels of its type
+    /// are counted here, once, by a recursion as deep as its height. Where memory is wanting, the
     /// variable and its type are dropped.
     pub fn bind(&mut self, param: Param) -> Result<(), AllocError>
         ensures ok { OnOk result (self.new ≡ (param.var, ty_of param.ty) ∷ self.old) }
         ensures err { OnErr result (self.new ≡ self.old) }
     {
-        self.params.push(param)?;
+        let binding = counted(*self.bindings.allocator(), param)?;
+        self.bindings.push(binding)?;
+        Ok(())
+    }
+
+    /// Binds a variable as `bind` does, to a type that it shares. It takes constant time.
+    pub fn bind_shared(&mut self, var: Var, made: &Measured) -> Result<(), AllocError>
+        ensures ok { OnOk result (self.new ≡ (var, ty_of made.now.ty.value) ∷ self.old) }
+        ensures err { OnErr result (self.new ≡ self.old) }
+    {
+        let sharing = shared(var, made)?;
+        self.bindings.push(sharing)?;
         Ok(())
     }
 
@@ -68,7 +76,7 @@ impl Gamma {
         requires { 0 < length self.old }
         ensures { self.new ≡ drop 1 self.old }
     {
-        self.params.pop();
+        self.bindings.pop();
     }
 
     /// The type that was bound to the variable last.
@@ -76,22 +84,35 @@ impl Gamma {
         ensures some { IfSome result (λ ty. found self.now var ≡ Some (ty_of ty.now)) }
         ensures none { IfNone result (found self.now var ≡ None) }
     {
-        match last(self.params.as_slice(), var) {
-            Some(param) => Some(&param.ty),
+        match last(self.bindings.as_slice(), var) {
+            Some(binding) => Some(binding.ty.as_ref()),
             None => None,
+        }
+    }
+
+    /// The type that was bound to the variable last, shared. Once the variable is found, it takes
+    /// constant time.
+    pub fn get_shared(&self, var: Var) -> Result<Option<Measured>, AllocError>
+        requires { IfSome (found self.now var) IsWithinLimits }
+        ensures { IfOk result (λ made.
+            found self.now var ≡ option_map (λ m. ty_of m.ty.value) made) }
+    {
+        match last(self.bindings.as_slice(), var) {
+            Some(binding) => Ok(Some(binding.share()?)),
+            None => Ok(None),
         }
     }
 }
 
 // The last of the variables that is this one.
-fn last(params: &[Param], var: Var) -> Option<&Param>
-    ensures some { IfSome result (λ param.
-        found (context_of params.now) var ≡ Some (ty_of param.now.ty)) }
-    ensures none { IfNone result (found (context_of params.now) var ≡ None) }
+fn last(bindings: &[Binding], var: Var) -> Option<&Binding>
+    ensures some { IfSome result (λ binding.
+        found (context_of bindings.now) var ≡ Some (ty_of binding.now.ty.value)) }
+    ensures none { IfNone result (found (context_of bindings.now) var ≡ None) }
 {
-    for param in params.iter().rev() {
-        if param.is_of(&var) {
-            return Some(param);
+    for binding in bindings.iter().rev() {
+        if binding.is_of(&var) {
+            return Some(binding);
         }
     }
     None

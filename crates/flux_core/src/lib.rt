@@ -2,6 +2,7 @@
 //! types that are concluded, and walks over types.
 #![tactic(auto)]
 
+mod binding;
 mod conclude;
 mod fault;
 mod gamma;
@@ -13,5 +14,5 @@ mod walk;
 pub use conclude::{either, in_sequence, nothing, one_atom, one_element, repeated};
 pub use fault::KindFault;
 pub use gamma::{Gamma, Param};
-pub use measured::{Measured, copied, measure};
+pub use measured::{Measured, copied, measure, own};
 pub use walk::{Turn, Walk};

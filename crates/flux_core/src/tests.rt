@@ -1,7 +1,7 @@
 // What no clause says: that calls succeed, with what one works out by hand.
 ghost use Rattle.std.specs.Prelude.{◌≡◌, ◌+◌, length, OnOk};
 
-use crate::{Gamma, Param};
+use crate::{Gamma, Param, one_atom, own};
 use flux_atom::AtomKind;
 use flux_calculus::Var;
 use flux_types::Ty;
@@ -33,5 +33,19 @@ fn the_last_bound_is_seen(rt: HostRuntime) -> Result<(), Fail> {
     assert!(rt; gamma.get(Var::Made(1)).is_none());
     gamma.unbind();
     assert!(rt; is_atom(gamma.get(Var::Made(0)), AtomKind::Bool));
+    Ok(())
+}
+
+#[test]
+fn a_type_that_is_shared(rt: HostRuntime) -> Result<(), Fail> {
+    let alloc = rt.alloc();
+    let mut gamma = Gamma::new(alloc);
+    let made = one_atom(alloc, AtomKind::Text)?;
+    gamma.bind_shared(Var::Made(0), &made)?;
+    let other = made.share()?;
+    let ty = own(alloc, made)?;
+    assert!(rt; is_atom(Some(&ty), AtomKind::Text));
+    assert!(rt; is_atom(Some(other.ty.as_ref()), AtomKind::Text));
+    assert!(rt; is_atom(gamma.get(Var::Made(0)), AtomKind::Text));
     Ok(())
 }

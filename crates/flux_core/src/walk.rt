@@ -73,7 +73,10 @@ impl Walk {
     {
         match descend(&mut self.frames, ty, defs)? {
             Some(tree) => Ok(Turn::At(tree)),
-            None => self.put(nothing(), defs),
+            None => {
+                let made = nothing(*self.frames.allocator())?;
+                self.put(made, defs)
+            }
         }
     }
 
@@ -82,8 +85,8 @@ impl Walk {
         requires defs { AreKept defs.now }
         requires waiting { AreToBeUsed defs.now (frames_in self.old) }
 
-        ensures turn { IsTurn defs.now self.old.place (behind (frames_in self.old) (ty_of made.ty))
-            (frames_in self.new) result }
+        ensures turn { IsTurn defs.now self.old.place
+            (behind (frames_in self.old) (ty_of made.ty.value)) (frames_in self.new) result }
         ensures waiting { OnOk result (AreToBeUsed defs.now (frames_in self.new)) }
         ensures place { self.new.place ≡ self.old.place }
     {
@@ -94,7 +97,7 @@ impl Walk {
                 Up::Whole(made) => made,
                 Up::Next(frame, ty) => match descend_in(&mut self.frames, frame, ty, defs)? {
                     Some(tree) => return Ok(Turn::At(tree)),
-                    None => nothing(),
+                    None => nothing(alloc)?,
                 },
             };
         }
@@ -156,7 +159,7 @@ fn descend_in(
 
 // Goes up from a part that became a type, out of what stands round it.
 fn ascend(alloc: Global, place: u32, frame: Frame, made: Measured) -> Result<Up, KindFault>
-    ensures { GoesUp place (frame_of frame) (ty_of made.ty) result }
+    ensures { GoesUp place (frame_of frame) (ty_of made.ty.value) result }
 {
     match frame {
         Frame::SeqFirst(second) => Ok(Up::Next(Frame::SeqSecond(made), second)),

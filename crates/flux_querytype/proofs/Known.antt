@@ -4,7 +4,9 @@ use Rattle.std.proofs.lemmas.Option.{same_Some}
 use Rattle.flux_schema.specs.Ty.{Ty, empty, element, seq, alt, star, named, IsWithinLimits}
 use Rattle.flux_schema.specs.Definitions.{Definitions, IsKnown, AreKnown}
 use Rattle.flux_schema.specs.Single.{Single, of_atom as of_atom_type, of_element as of_element_type, of_name as of_named}
+use Rattle.flux_types.specs.declared.ty.Ty.{Ty as Tree}
 use Rattle.flux_types.specs.Kept.{AreKept}
+use Rattle.flux_types.specs.Read.{ty_of}
 use Rattle.flux_calculus.specs.declared.ask.Var.{Var}
 use Rattle.flux_calculus.specs.Query.{Query, found, same_var}
 use Rattle.flux_calculus.specs.Fault.{too_large}
@@ -144,6 +146,10 @@ ready_same defs defs' Γ Γ' e f ready =
 
 pub usable_same : (defs defs' : Definitions) (t : Ty) → defs' ≡ defs → IsUsable defs t → IsUsable defs' t
 usable_same defs defs' t e h = let P : Definitions → Type 0 = λ d. IsUsable d t in subst P (sym e) h
+
+-- a type that is the same
+pub usable_owned : (defs defs' : Definitions) (m t : Tree) → m ≡ t → defs' ≡ defs → IsUsable defs (ty_of t) → IsUsable defs' (ty_of m)
+usable_owned defs defs' m t e f h = let P : Tree → Type 0 = λ m. IsUsable defs' (ty_of m) in subst P (sym e) (usable_same defs defs' (ty_of t) f h)
 
 pub ready_of : (defs defs' : Definitions) (Γ : Context) → defs' ≡ defs → AreKept defs' → AreUsable defs Γ → IsReady defs Γ
 ready_of defs defs' Γ e kept usable = record { kept = (let P : Definitions → Type 0 = λ d. AreKept d in subst P e kept); usable = usable }

@@ -1,5 +1,6 @@
 -- Variables, and what the one tree of a type contains.
-use Rattle.std.proofs.Common.{◌≡◌, ◌⊎◌, ℕ, Some, inl, inr, refl, sym, subst, arith}
+use Rattle.std.proofs.Common.{◌≡◌, ◌∙◌, ◌⊎◌, ℕ, Option, Some, None, IfSome, inl, inr, refl, sym, ap, subst, arith}
+use Rattle.std.specs.Option.{option_map}
 use Rattle.flux_atom.specs.declared.atom.AtomKind.{AtomKind}
 use Rattle.flux_schema.specs.Ty.{Ty, empty, atom, element, IsWithinLimits}
 use Rattle.flux_schema.specs.Definitions.{Definitions}
@@ -12,11 +13,20 @@ use Rattle.flux_types.proofs.Variants.{of_empty, of_atom, of_elem, of_seq, of_al
 use Rattle.flux_calculus.specs.declared.ask.Span.{Span}
 use Rattle.flux_calculus.specs.declared.ask.Var.{Var}
 use Rattle.flux_calculus.specs.Query.{variable, child, found}
-use Rattle.flux_calculus.specs.Typing.{Context, typed, of_query, Types, of_variable, of_child, of_atom_child}
+use Rattle.flux_calculus.specs.Typing.{Context, typed, faulty, of_query, Types, of_variable, of_no_variable, of_child, of_atom_child}
+use Rattle.flux_calculus.specs.Fault.{unknown_variable}
+use Rattle.flux_core.specs.declared.measured.Measured.{Measured}
+
+pub where_found : (o : Option Ty) → ((t : Ty) → o ≡ Some t → IsWithinLimits t) → IfSome o IsWithinLimits
+where_found (Some t) h = h t refl
+where_found None h = tt
 
 module _ (defs : Definitions) (Γ : Context) (at : Span) (x : Var) where
-  pub variable_copied : (m t : Tree) → found Γ x ≡ Some (ty_of t) → m ≡ t → Types defs (of_query Γ (variable at x)) (typed (ty_of m))
-  variable_copied m t e f = let P : Tree → Type 0 = λ m. Types defs (of_query Γ (variable at x)) (typed (ty_of m)) in subst P (sym f) (of_variable e)
+  pub variable_shared : (o : Option Measured) (m : Measured) → found Γ x ≡ option_map (λ m. ty_of m.ty.value) o → o ≡ Some m → Types defs (of_query Γ (variable at x)) (typed (ty_of m.ty.value))
+  variable_shared o m e f = of_variable (e ∙ ap (option_map (λ m. ty_of m.ty.value)) f)
+
+  pub variable_unbound : (o : Option Measured) → found Γ x ≡ option_map (λ m. ty_of m.ty.value) o → o ≡ None → Types defs (of_query Γ (variable at x)) (faulty (unknown_variable at.from))
+  variable_unbound o e f = of_no_variable (e ∙ ap (option_map (λ m. ty_of m.ty.value)) f)
 
   pub content_copied : (m one a u : Tree) (n : ℕ) (t : Ty) → found Γ x ≡ Some t → Single defs t (ty_of one) → one ≡ Elem n u → a ≡ u → m ≡ a → Types defs (of_query Γ (child at x)) (typed (ty_of m))
   content_copied m one a u n t e h is f g =

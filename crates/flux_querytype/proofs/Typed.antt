@@ -63,11 +63,11 @@ module _ (defs : Definitions) (Γ : Context) where
   pub element_answer : (at : Span) (n : ℕ) (q : calculus.Query) (t : Ty) (r : Result Measured KindFault) → Has defs Γ q (typed t) → IsConclusion at.from (element n t) r → IsAnswer defs (Has defs Γ (element_query at n q)) r
   element_answer at n q t r d h = from_conclusion defs (Has defs Γ (element_query at n q)) at.from (element n t) r (λ o c. of_element d c) h
 
-  pub literal_answer : (at : Span) (q : calculus.Query) (x : Leaf) (m : Measured) (k : AtomKind) → q ≡ literal at x → k ≡ kind_of x → ty_of m.ty ≡ atom k → IsAnswer defs (Has defs Γ q) (Ok m)
+  pub literal_answer : (at : Span) (q : calculus.Query) (x : Leaf) (m : Measured) (k : AtomKind) → q ≡ literal at x → k ≡ kind_of x → ty_of m.ty.value ≡ atom k → IsAnswer defs (Has defs Γ q) (Ok m)
   literal_answer at q x m k e f g =
-      let P : calculus.Query → Type 0 = λ w. Has defs Γ w (typed (ty_of m.ty)) in
+      let P : calculus.Query → Type 0 = λ w. Has defs Γ w (typed (ty_of m.ty.value)) in
       let Q : Ty → Type 0 = λ w. Has defs Γ (literal at x) (typed w) in
-      let same : atom (kind_of x) ≡ ty_of m.ty = ap atom (sym f) ∙ sym g in
+      let same : atom (kind_of x) ≡ ty_of m.ty.value = ap atom (sym f) ∙ sym g in
       subst P (sym e) (subst Q same (of_literal x))
 
   -- ---- bodies with a variable
@@ -106,7 +106,7 @@ module _ (defs : Definitions) (Γ : Context) where
   pub right_fault : (at : Span) (q s : calculus.Query) (t : Ty) (e : KindFault) (r : Result Measured KindFault) → Has defs Γ q (typed t) → IsFault defs (Has defs Γ s) e → IsErrAnd r (λ y. y ≡ e) → IsAnswer defs (Has defs Γ (alike at q s)) r
   right_fault at q s t e r d h i = passed_on defs (Has defs Γ s) (Has defs Γ (alike at q s)) e r (λ f k. right_of_alike d k) h i
 
-  pub alike_answer : (at : Span) (q s : calculus.Query) (t u : Ty) (m : Measured) → Has defs Γ q (typed t) → Has defs Γ s (typed u) → ty_of m.ty ≡ atom kind.Bool → IsAnswer defs (Has defs Γ (alike at q s)) (Ok m)
+  pub alike_answer : (at : Span) (q s : calculus.Query) (t u : Ty) (m : Measured) → Has defs Γ q (typed t) → Has defs Γ s (typed u) → ty_of m.ty.value ≡ atom kind.Bool → IsAnswer defs (Has defs Γ (alike at q s)) (Ok m)
   alike_answer at q s t u m d k e = let P : Ty → Type 0 = λ w. Has defs Γ (alike at q s) (typed w) in subst P (sym e) (of_alike d k)
 
   -- ---- maps
@@ -125,9 +125,9 @@ module _ (defs : Definitions) (Γ : Context) where
 
   -- ---- queries one behind the other
 
-  pub none_answer : (at : Span) (qs : List Query) (m : Measured) → qs ≡ [] → ty_of m.ty ≡ empty → IsAnswer defs (Has defs Γ (queries_of at qs)) (Ok m)
+  pub none_answer : (at : Span) (qs : List Query) (m : Measured) → qs ≡ [] → ty_of m.ty.value ≡ empty → IsAnswer defs (Has defs Γ (queries_of at qs)) (Ok m)
   none_answer at qs m e f =
-      let P : List Query → Type 0 = λ qs. Has defs Γ (queries_of at qs) (typed (ty_of m.ty)) in
+      let P : List Query → Type 0 = λ qs. Has defs Γ (queries_of at qs) (typed (ty_of m.ty.value)) in
       let Q : Ty → Type 0 = λ w. Has defs Γ (nothing at) (typed w) in
       subst P (sym e) (subst Q (sym f) of_nothing)
 
@@ -142,7 +142,7 @@ module _ (defs : Definitions) (Γ : Context) where
       let P : Result Measured KindFault → Type 0 = λ r. IsAnswer defs (Has defs Γ (queries_of at (p ∷ (q ∷ qs)))) r in
       subst P (sym j) (passed_on defs (Has defs Γ (queries_of at (q ∷ qs))) (Has defs Γ (queries_of at (p ∷ (q ∷ qs)))) e (Err e) (λ f d. others_of_several h d) i refl)
   several_answer at p q qs (Ok t) (Ok u) r h i j =
-      from_conclusion defs (Has defs Γ (queries_of at (p ∷ (q ∷ qs)))) at.from (seq (ty_of t.ty) (ty_of u.ty)) r (λ o c. of_several h i c) j
+      from_conclusion defs (Has defs Γ (queries_of at (p ∷ (q ∷ qs)))) at.from (seq (ty_of t.ty.value) (ty_of u.ty.value)) r (λ o c. of_several h i c) j
 
   -- of all the queries, those behind the ones that are left have an answer
   pub record Behind (at : Span) (all left : List Query) (r : Result Measured KindFault) : Type 0 where
@@ -172,6 +172,16 @@ module _ (defs : Definitions) (Γ : Context) where
 
 pub under_same : (defs defs' : Definitions) (Γ Γ' : Context) (x : Var) (t : Ty) (q : calculus.Query) (r : Result Measured KindFault) → defs' ≡ defs → Γ' ≡ Γ → IsAnswer defs' (Has defs' ((x, t) ∷ Γ') q) r → IsAnswer defs (Has defs ((x, t) ∷ Γ) q) r
 under_same defs defs' Γ Γ' x t q r e f h = answer_same defs defs' ((x, t) ∷ Γ) ((x, t) ∷ Γ') q r e (ap (λ w. (x, t) ∷ w) f) h
+
+-- a query has a type that is the same
+pub has_owned : (defs : Definitions) (Γ : Context) (q : calculus.Query) (m t : Tree) → m ≡ t → Has defs Γ q (typed (ty_of t)) → Has defs Γ q (typed (ty_of m))
+has_owned defs Γ q m t e h = let P : Tree → Type 0 = λ m. Has defs Γ q (typed (ty_of m)) in subst P (sym e) h
+
+-- a body with a variable of a tree, which is the type that is bound
+pub under_tree : (defs defs' : Definitions) (Γ Γ' : Context) (x : Var) (m t : Tree) (q : calculus.Query) (r : Result Measured KindFault) → m ≡ t → defs' ≡ defs → Γ' ≡ Γ → IsAnswer defs' (Has defs' ((x, ty_of m) ∷ Γ') q) r → IsAnswer defs (Has defs ((x, ty_of t) ∷ Γ) q) r
+under_tree defs defs' Γ Γ' x m t q r i e f h =
+    let P : Tree → Type 0 = λ m. IsAnswer defs (Has defs ((x, ty_of m) ∷ Γ) q) r in
+    subst P i (under_same defs defs' Γ Γ' x (ty_of m) q r e f h)
 
 pub maps_same : (defs defs' : Definitions) (at : ℕ) (f : Treatment) (t : Ty) (r : Result Measured KindFault) → defs' ≡ defs → IsAnswer defs' (Maps defs' at f t) r → IsAnswer defs (Maps defs at f t) r
 maps_same defs defs' at f t r e h = let P : Definitions → Type 0 = λ w. IsAnswer w (Maps w at f t) r in subst P e h

@@ -40,7 +40,7 @@ abbrev pub IsAfter : Span → Result Measured KindFault → Result Measured Kind
 IsAfter at (Err fault) others r = r ≡ Err fault
 IsAfter at (Ok first) (Err fault) r = r ≡ Err fault
 IsAfter at (Ok first) (Ok others) r =
-    IsConclusion at.from (seq (ty_of first.ty) (ty_of others.ty)) r
+    IsConclusion at.from (seq (ty_of first.ty.value) (ty_of others.ty.value)) r
 
 -- the query has a type that is included in `bool`
 abbrev pub IsTruth : Definitions → Context → Query → Type 0

@@ -1,5 +1,5 @@
 // The type of the trees that pass a test.
-ghost use Rattle.std.specs.Prelude.{◌≡◌};
+ghost use Rattle.std.specs.Prelude.{◌≡◌, IfOk};
 ghost use Rattle.flux_schema.specs.Ty.{IsWithinLimits};
 ghost use Rattle.flux_types.specs.Read.{ty_of};
 ghost use Rattle.flux_types.specs.Kept.{AreKept};
@@ -12,7 +12,7 @@ use flux_atom::AtomKind;
 use flux_calculus::Test;
 use flux_core::{KindFault, Measured, Turn, Walk, measure, nothing};
 use flux_types::{Defs, Ty};
-use std::alloc::Global;
+use std::alloc::{AllocError, Global};
 
 // The type of the trees of another type that pass a test.
 pub(crate) fn filtered(
@@ -32,20 +32,23 @@ pub(crate) fn filtered(
     loop {
         turn = match turn {
             Turn::Over(made) => return Ok(made),
-            Turn::At(tree) => walk.put(passing(tree, test), defs)?,
+            Turn::At(tree) => {
+                let made = passing(alloc, tree, test)?;
+                walk.put(made, defs)?
+            }
         };
     }
 }
 
 // An atom type or an element type, where its trees pass the test.
-fn passing(ty: Ty, test: &Test) -> Measured
+fn passing(alloc: Global, ty: Ty, test: &Test) -> Result<Measured, AllocError>
     requires { IsWithinLimits (ty_of ty) }
-    ensures { ty_of result.ty ≡ kept test.now (ty_of ty) }
+    ensures { IfOk result (λ made. ty_of made.ty.value ≡ kept test.now (ty_of ty)) }
 {
     if passes(&ty, test) {
-        measure(ty)
+        measure(alloc, ty)
     } else {
-        nothing()
+        nothing(alloc)
     }
 }
 

@@ -31,9 +31,8 @@ pub(crate) fn place(query: &Query) -> u32
     }
 }
 
-// The type of a variable.
+// The type of a variable, which is shared.
 pub(crate) fn type_variable(
-    alloc: Global,
     var: &Var,
     span: &Span,
     gamma: &Gamma,
@@ -43,8 +42,9 @@ pub(crate) fn type_variable(
     ensures { IsAnswer defs.now
         (Types defs.now (of_query gamma.now (variable span.now var.now))) result }
 {
-    match gamma.get(*var) {
-        Some(ty) => Ok(copied(alloc, ty)?),
+    let bound = gamma.get_shared(*var)?;
+    match bound {
+        Some(made) => Ok(made),
         None => Err(KindFault::UnknownVar { place: span.from }),
     }
 }
@@ -70,7 +70,7 @@ pub(crate) fn type_child(
     };
     match one {
         Ty::Elem(_, content) => Ok(copied(alloc, content.get())?),
-        Ty::Atom(_) => Ok(nothing()),
+        Ty::Atom(_) => Ok(nothing(alloc)?),
         Ty::Empty | Ty::Seq(_, _) | Ty::Alt(_, _) | Ty::Star(_) | Ty::Named(_) => unreachable!(),
     }
 }

@@ -14,8 +14,8 @@ use crate::leaf::{place, type_child, type_variable};
 use flux_atom::{AtomKind, Name, kind};
 use flux_calculus::{Span, Test, Var};
 use flux_core::{
-    Gamma, KindFault, Measured, Param, Turn, Walk, either, in_sequence, nothing, one_atom,
-    one_element,
+    Gamma, KindFault, Measured, Turn, Walk, either, in_sequence, measure, nothing, one_atom,
+    one_element, own,
 };
 use flux_query::Query;
 use flux_types::{Decider, Ty, Verdict};
@@ -49,8 +49,8 @@ pub(crate) fn type_of<D: Decider>(
         Query::Elem(label, content, span) => {
             type_element(alloc, content.get(), *label, *span, gamma, decider)
         }
-        Query::Lit(atom, _) => Ok(one_atom(kind(atom))),
-        Query::Var(var, span) => type_variable(alloc, var, span, gamma, decider.defs()),
+        Query::Lit(atom, _) => Ok(one_atom(alloc, kind(atom))?),
+        Query::Var(var, span) => type_variable(var, span, gamma, decider.defs()),
         Query::Let(var, bound, body, _) => {
             type_binding(alloc, bound.get(), var, body.get(), gamma, decider)
         }
@@ -93,7 +93,7 @@ fn type_all<D: Decider>(
         gamma.old gamma.new }
 {
     let Some((last, others)) = queries.split_last() else {
-        return Ok(nothing());
+        return Ok(nothing(alloc)?);
     };
     let mut outcome = type_of(alloc, last, gamma, decider);
     for query in others.iter().rev() {
@@ -154,7 +154,7 @@ fn type_binding<D: Decider>(
         gamma.old gamma.new }
 {
     let bound = type_of(alloc, bound, gamma, decider)?;
-    type_under(alloc, body, var, bound.ty, gamma, decider)
+    type_under(alloc, body, var, bound, gamma, decider)
 }
 
 // A body with a variable of a type.
@@ -163,19 +163,20 @@ fn type_under<D: Decider>(
     alloc: Global,
     body: &Query,
     var: &Var,
-    ty: Ty,
+    made: Measured,
     gamma: &mut Gamma,
     decider: &mut D,
 ) -> Result<Measured, KindFault>
     requires ready { IsReady (D.definitions decider.old) gamma.old }
-    requires usable { IsUsable (D.definitions decider.old) (ty_of ty) }
+    requires usable { IsUsable (D.definitions decider.old) (ty_of made.ty.value) }
     ensures answer { let defs = D.definitions decider.old in
         IsAnswer defs
-        (Types defs (of_query ((var.now, ty_of ty) ∷ gamma.old) (query_of body.now))) result }
+        (Types defs (of_query ((var.now, ty_of made.ty.value) ∷ gamma.old) (query_of body.now)))
+        result }
     ensures left { Leaves D.definitions D.keeps D.known decider.old decider.new
         gamma.old gamma.new }
 {
-    gamma.bind(Param { var: *var, ty })?;
+    gamma.bind_shared(*var, &made)?;
     let outcome = type_of(alloc, body, gamma, decider);
     gamma.unbind();
     outcome
@@ -221,7 +222,7 @@ fn type_condition<D: Decider>(
         gamma.old gamma.new }
 {
     let found = type_of(alloc, condition, gamma, decider)?;
-    match decider.included(alloc, &found.ty, &Ty::Atom(AtomKind::Bool))? {
+    match decider.included(alloc, found.ty.as_ref(), &Ty::Atom(AtomKind::Bool))? {
         Verdict::Yes => Ok(()),
         Verdict::No(shown) => Err(KindFault::NotBool {
             place: place(condition),
@@ -248,7 +249,8 @@ fn type_alike<D: Decider>(
 {
     let _left = type_of(alloc, left, gamma, decider)?;
     let _right = type_of(alloc, right, gamma, decider)?;
-    Ok(one_atom(AtomKind::Bool))
+    let made = one_atom(alloc, AtomKind::Bool)?;
+    Ok(made)
 }
 
 #[cycle(typing)]
@@ -268,7 +270,8 @@ fn type_filter<D: Decider>(
         gamma.old gamma.new }
 {
     let from = type_of(alloc, from, gamma, decider)?;
-    filtered(alloc, from.ty, test, span.from, decider.defs())
+    let trees = own(alloc, from)?;
+    filtered(alloc, trees, test, span.from, decider.defs())
 }
 
 #[cycle(typing)]
@@ -289,7 +292,8 @@ fn type_each<D: Decider>(
         gamma.old gamma.new }
 {
     let over = type_of(alloc, over, gamma, decider)?;
-    type_trees(alloc, over.ty, step, gamma, decider)
+    let trees = own(alloc, over)?;
+    type_trees(alloc, trees, step, gamma, decider)
 }
 
 // What a type becomes by a step at each of its trees.
@@ -315,7 +319,8 @@ fn type_trees<D: Decider>(
         turn = match turn {
             Turn::Over(made) => return Ok(made),
             Turn::At(tree) => {
-                let made = type_under(alloc, step.body, &step.var, tree, gamma, decider)?;
+                let one = measure(alloc, tree)?;
+                let made = type_under(alloc, step.body, &step.var, one, gamma, decider)?;
                 walk.put(made, decider.defs())?
             }
         };

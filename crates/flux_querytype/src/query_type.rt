@@ -7,7 +7,7 @@ ghost use Rattle.flux_core.specs.Faults.{IsUsable, AreUsable};
 ghost use Rattle.flux_querytype.specs.Answers.{Leaves, IsQueryFault};
 
 use crate::query::type_of;
-use flux_core::{Gamma, KindFault};
+use flux_core::{Gamma, KindFault, own};
 use flux_query::Query;
 use flux_types::{Decider, Ty};
 use std::alloc::Global;
@@ -18,10 +18,12 @@ use std::alloc::Global;
 /// the forest that is shown is a member of that type and not of `bool`.
 ///
 /// It recurses by the nesting of the query alone: types are walked with a stack of their own, and
-/// names are followed in a loop; only the copy and the drop of a type recurse by its height, at
-/// most 500. The time grows in step with the query and the types that it makes, each name unfolded
-/// wherever a step meets it, and with what the decider takes, which is asked once for each
-/// condition.
+/// names are followed in a loop; only the count, the copy and the drop of a type recurse by its
+/// height, at most 500. The type of a variable is shared: it is copied only where it becomes part
+/// of another type or is answered, and once for each loop or filter over it. What an element
+/// contains is copied wherever it is asked for. The time grows in step with the query and the types
+/// that it makes, each name unfolded wherever a step meets it, and with what the decider takes,
+/// which is asked once for each condition.
 pub fn type_query<D: Decider>(
     alloc: Global,
     gamma: &mut Gamma,
@@ -40,5 +42,6 @@ pub fn type_query<D: Decider>(
     // the call is made for what it promises: the definitions are good
     let _defs = decider.defs();
     let made = type_of(alloc, query, gamma, decider)?;
-    Ok(made.ty)
+    let ty = own(alloc, made)?;
+    Ok(ty)
 }

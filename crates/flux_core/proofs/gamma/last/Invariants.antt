@@ -3,5 +3,5 @@ use Rattle.flux_calculus.specs.Query.{found}
 use Rattle.flux_core.specs.Contexts.{context_of}
 use Rattle.flux_core.proofs.gamma.last.Given as goal
 
-abbrev pub invariant-loop-param : goal.invariant-loop-param
-invariant-loop-param l = found (context_of l.params) l.var ≡ found (context_of l.param-iterator.iter.rest.now) l.var
+abbrev pub invariant-loop-binding : goal.invariant-loop-binding
+invariant-loop-binding l = found (context_of l.bindings) l.var ≡ found (context_of l.binding-iterator.iter.rest.now) l.var

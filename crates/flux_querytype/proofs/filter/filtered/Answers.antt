@@ -37,14 +37,14 @@ returns-in_err-turn-in-At c =
     let gs = frames_in c.loop-turn.walk in
     let h = turn_at defs (Treated defs f) at whole gs c.loop-turn.turn c.in-At.tree c.in-At.is c.loop-turn.invariant.leads in
     answer_mapped defs at f whole c.from_residual-in_err-turn-in-At.result
-    (next_fault defs (Treated defs f) at whole defs c.loop-turn.walk.place gs (frames_in c.put.new.self) (ty_of c.in-At.tree) (ty_of c.passing.result.ty) c.in_err-turn-in-At.field-0.0 c.from_residual-in_err-turn-in-At.result refl c.loop-turn.invariant.place h.0 h.2 (ap typed (sym c.passing.ensures)) c.passing.result.limits c.in_err-turn-in-At.ensures.turn c.from_residual-in_err-turn-in-At.ensures.1)
+    (next_fault defs (Treated defs f) at whole defs c.loop-turn.walk.place gs (frames_in c.put.new.self) (ty_of c.in-At.tree) (ty_of c.in_ok-made-in-At.made.ty.value) c.in_err-turn-in-At.field-0.0 c.from_residual-in_err-turn-in-At.result refl c.loop-turn.invariant.place h.0 h.2 (ap typed (sym c.in_ok-made-in-At.ensures)) c.in_ok-made-in-At.made.limits c.in_err-turn-in-At.ensures.turn c.from_residual-in_err-turn-in-At.ensures.1)
 
 pub loop-turn-smaller : goal.loop-turn-smaller
 loop-turn-smaller c =
     let defs = c.args.defs.now in
     let gs = frames_in c.loop-turn.walk in
     let h = turn_at defs (Treated defs (keeping c.args.test.now)) c.args.place (ty_of c.args.ty) gs c.loop-turn.turn c.in-At.tree c.in-At.is c.loop-turn.invariant.leads in
-    turn_less defs defs c.loop-turn.walk.place gs (frames_in c.put.new.self) c.in-At.tree (ty_of c.passing.result.ty) c.loop-turn.turn c.in_ok-turn-in-At.turn refl c.requires.defs c.in-At.is h.0 c.in_ok-turn-in-At.ensures.turn
+    turn_less defs defs c.loop-turn.walk.place gs (frames_in c.put.new.self) c.in-At.tree (ty_of c.in_ok-made-in-At.made.ty.value) c.loop-turn.turn c.in_ok-turn-in-At.turn refl c.requires.defs c.in-At.is h.0 c.in_ok-turn-in-At.ensures.turn
 
 pub loop-turn-preserved : goal.loop-turn-preserved
 loop-turn-preserved c =
@@ -57,5 +57,5 @@ loop-turn-preserved c =
     record {
       place = c.in_ok-turn-in-At.ensures.place ∙ c.loop-turn.invariant.place;
       waiting = c.in_ok-turn-in-At.ensures.waiting;
-      leads = next_leads defs (Treated defs f) at whole defs c.loop-turn.walk.place gs (frames_in c.put.new.self) (ty_of c.in-At.tree) (ty_of c.passing.result.ty) c.in_ok-turn-in-At.turn refl c.loop-turn.invariant.place h.0 h.2 (ap typed (sym c.passing.ensures)) c.passing.result.limits c.in_ok-turn-in-At.ensures.turn;
+      leads = next_leads defs (Treated defs f) at whole defs c.loop-turn.walk.place gs (frames_in c.put.new.self) (ty_of c.in-At.tree) (ty_of c.in_ok-made-in-At.made.ty.value) c.in_ok-turn-in-At.turn refl c.loop-turn.invariant.place h.0 h.2 (ap typed (sym c.in_ok-made-in-At.ensures)) c.in_ok-made-in-At.made.limits c.in_ok-turn-in-At.ensures.turn;
     }

@@ -24,8 +24,8 @@ unreachable-requires c = never_many c.args.defs.now (ty_of c.in-Some.ty.now) c.i
 pub returns-in_ok-copied-in-Elem : goal.returns-in_ok-copied-in-Elem
 returns-in_ok-copied-in-Elem c =
     let made = c.in_ok-copied-in-Elem in
-    content_copied c.args.defs.now c.args.gamma.now c.args.span.now c.args.var.now made.field-0.ty c.in-Some-single.one.now c.get-in-Elem.result.now c.in-Elem.content c.in-Elem.field-0 (ty_of c.in-Some.ty.now) c.in-Some.ensures.some c.in-Some-single.ensures.found c.in-Elem.is c.get-in-Elem.ensures made.ensures
+    content_copied c.args.defs.now c.args.gamma.now c.args.span.now c.args.var.now made.field-0.ty.value c.in-Some-single.one.now c.get-in-Elem.result.now c.in-Elem.content c.in-Elem.field-0 (ty_of c.in-Some.ty.now) c.in-Some.ensures.some c.in-Some-single.ensures.found c.in-Elem.is c.get-in-Elem.ensures made.ensures
 
-pub returns-in-Atom : goal.returns-in-Atom
-returns-in-Atom c =
-    atom_content c.args.defs.now c.args.gamma.now c.args.span.now c.args.var.now c.nothing.result.ty c.in-Some-single.one.now c.in-Atom.field-0 (ty_of c.in-Some.ty.now) c.in-Some.ensures.some c.in-Some-single.ensures.found c.in-Atom.is c.nothing.ensures
+pub returns-in_ok-nothing-in-Atom : goal.returns-in_ok-nothing-in-Atom
+returns-in_ok-nothing-in-Atom c =
+    atom_content c.args.defs.now c.args.gamma.now c.args.span.now c.args.var.now c.in_ok-nothing-in-Atom.field-0.ty.value c.in-Some-single.one.now c.in-Atom.field-0 (ty_of c.in-Some.ty.now) c.in-Some.ensures.some c.in-Some-single.ensures.found c.in-Atom.is c.in_ok-nothing-in-Atom.ensures

@@ -6,12 +6,12 @@ use Rattle.flux_calculus.specs.Typing.{keeping, returning}
 use Rattle.flux_query.specs.Read.{query_of}
 use Rattle.flux_querytype.proofs.Left.{left_by_both}
 use Rattle.flux_querytype.proofs.Weights.{weight_pos, weight_last, weight_inside, weights_below}
-use Rattle.flux_querytype.proofs.Known.{typed_usable, ready_bound, ready_same, usable_same}
+use Rattle.flux_querytype.proofs.Known.{typed_usable, ready_bound, ready_same, usable_same, usable_owned}
 use Rattle.flux_querytype.proofs.Queries.{of_concat, of_lit, of_let, of_same}
 use Rattle.flux_querytype.proofs.MapLaws.{Treated, mapped, answer_mapped, waiting_as}
 use Rattle.flux_core.specs.Walk.{frames_in}
 use Rattle.flux_core.proofs.TurnLaws.{first_leads, first_fault, next_leads, next_fault, tree_fault, turn_at, turn_over, turn_less}
-use Rattle.flux_querytype.proofs.Typed.{fault_same, answer_same, answer_at, under_same, maps_same, returning_same, no_length, element_fault, element_answer, literal_answer, bound_fault, binding_answer, condition_passed, condition_refused, choice_yes, choice_no, choice_answer, left_fault, right_fault, alike_answer, from_fault, filter_answer, over_fault, each_answer, none_answer, behind_last, behind_more, behind_all}
+use Rattle.flux_querytype.proofs.Typed.{fault_same, answer_same, answer_at, under_same, under_tree, has_owned, maps_same, returning_same, no_length, element_fault, element_answer, literal_answer, bound_fault, binding_answer, condition_passed, condition_refused, choice_yes, choice_no, choice_answer, left_fault, right_fault, alike_answer, from_fault, filter_answer, over_fault, each_answer, none_answer, behind_last, behind_more, behind_all}
 use Rattle.flux_querytype.proofs.query.+typing.Goals as goal
 
 pub type_element-returns-in_err-content-clause-answer : goal.type_element-returns-in_err-content-clause-answer
@@ -31,7 +31,7 @@ type_alike-returns-in_err-_right-clause-answer g t c = λ at.
 pub type_alike-returns-clause-answer : goal.type_alike-returns-clause-answer
 type_alike-returns-clause-answer g t c = λ at.
     let h = answer_same (g.D.Decider.definitions c.args.decider.now) _ c.args.gamma.now _ (query_of c.args.right.now) (Ok c.in_ok-_right._right) c.in_ok-_left.ensures.left.definitions c.in_ok-_left.ensures.left.gamma c.in_ok-_right.ensures.answer in
-    alike_answer (g.D.Decider.definitions c.args.decider.now) c.args.gamma.now at (query_of c.args.left.now) (query_of c.args.right.now) _ _ c.one_atom.result c.in_ok-_left.ensures.answer h c.one_atom.ensures
+    alike_answer (g.D.Decider.definitions c.args.decider.now) c.args.gamma.now at (query_of c.args.left.now) (query_of c.args.right.now) _ _ c.in_ok-made.made c.in_ok-_left.ensures.answer h c.in_ok-made.ensures
 
 pub type_binding-returns-in_err-bound-clause-answer : goal.type_binding-returns-in_err-bound-clause-answer
 type_binding-returns-in_err-bound-clause-answer g t c = λ at. bound_fault (g.D.Decider.definitions c.args.decider.now) c.args.gamma.now at c.args.var.now (query_of c.args.bound.now) (query_of c.args.body.now) c.in_err-bound.field-0.0 c.from_residual.result c.in_err-bound.ensures.answer c.from_residual.ensures.1
@@ -40,18 +40,18 @@ pub type_binding-type_under-requires : goal.type_binding-type_under-requires
 type_binding-type_under-requires g t c κs within =
     let defs = g.D.Decider.definitions c.args.decider.now in
     let same = c.in_ok-bound.ensures.left.definitions in
-    let usable = typed_usable defs c.args.gamma.now (query_of c.args.bound.now) (ty_of c.in_ok-bound.bound.ty) c.requires.ready c.in_ok-bound.ensures.answer c.in_ok-bound.bound.limits in
-    (omega (arith, c.decreases, weight_pos (query_of c.args.bound.now)), (search rules, (ready_same defs _ c.args.gamma.now _ same c.in_ok-bound.ensures.left.gamma c.requires.ready, usable_same defs _ (ty_of c.in_ok-bound.bound.ty) same usable)))
+    let usable = typed_usable defs c.args.gamma.now (query_of c.args.bound.now) (ty_of c.in_ok-bound.bound.ty.value) c.requires.ready c.in_ok-bound.ensures.answer c.in_ok-bound.bound.limits in
+    (omega (arith, c.decreases, weight_pos (query_of c.args.bound.now)), (search rules, (ready_same defs _ c.args.gamma.now _ same c.in_ok-bound.ensures.left.gamma c.requires.ready, usable_same defs _ (ty_of c.in_ok-bound.bound.ty.value) same usable)))
 
 pub type_binding-returns-clause-answer : goal.type_binding-returns-clause-answer
 type_binding-returns-clause-answer g t c = λ at.
     let defs = g.D.Decider.definitions c.args.decider.now in
-    let h = under_same defs _ c.args.gamma.now _ c.args.var.now (ty_of c.in_ok-bound.bound.ty) (query_of c.args.body.now) c.type_under.result c.in_ok-bound.ensures.left.definitions c.in_ok-bound.ensures.left.gamma c.type_under.ensures.answer in
-    binding_answer defs c.args.gamma.now at c.args.var.now (query_of c.args.bound.now) (query_of c.args.body.now) (ty_of c.in_ok-bound.bound.ty) c.type_under.result c.in_ok-bound.ensures.answer h
+    let h = under_same defs _ c.args.gamma.now _ c.args.var.now (ty_of c.in_ok-bound.bound.ty.value) (query_of c.args.body.now) c.type_under.result c.in_ok-bound.ensures.left.definitions c.in_ok-bound.ensures.left.gamma c.type_under.ensures.answer in
+    binding_answer defs c.args.gamma.now at c.args.var.now (query_of c.args.bound.now) (query_of c.args.body.now) (ty_of c.in_ok-bound.bound.ty.value) c.type_under.result c.in_ok-bound.ensures.answer h
 
 pub type_under-type_of-outcome-requires : goal.type_under-type_of-outcome-requires
 type_under-type_of-outcome-requires g t c κs within =
-    let ready = ready_bound (g.D.Decider.definitions c.args.decider.now) c.args.gamma.now _ c.args.var.now (ty_of c.args.ty) c.in_ok-bind.ensures.ok c.requires.ready c.requires.usable in
+    let ready = ready_bound (g.D.Decider.definitions c.args.decider.now) c.args.gamma.now _ c.args.var.now (ty_of c.args.made.ty.value) c.in_ok-bind_shared.ensures.ok c.requires.ready c.requires.usable in
     (omega (arith, c.decreases), (search rules, ready))
 
 pub type_choice-type_condition-requires : goal.type_choice-type_condition-requires
@@ -84,13 +84,14 @@ type_condition-returns-in_err-found-clause-fault g t c = condition_passed (g.D.D
 pub type_condition-included-requires-clause-left_known : goal.type_condition-included-requires-clause-left_known
 type_condition-included-requires-clause-left_known g t c =
     let defs = g.D.Decider.definitions c.args.decider.now in
-    let usable = typed_usable defs c.args.gamma.now (query_of c.args.condition.now) (ty_of c.in_ok-found.found.ty) c.requires.ready c.in_ok-found.ensures.answer c.in_ok-found.found.limits in
-    (usable_same defs _ (ty_of c.in_ok-found.found.ty) c.in_ok-found.ensures.left.definitions usable).known
+    let usable = typed_usable defs c.args.gamma.now (query_of c.args.condition.now) (ty_of c.in_ok-found.found.ty.value) c.requires.ready c.in_ok-found.ensures.answer c.in_ok-found.found.limits in
+    (usable_owned defs _ c.as_ref.result.now c.in_ok-found.found.ty.value c.as_ref.ensures c.in_ok-found.ensures.left.definitions usable).known
 
 pub type_condition-returns-clause-fault : goal.type_condition-returns-clause-fault
 type_condition-returns-clause-fault g t c =
     let found = c.in_ok-found.ensures in
-    condition_refused (g.D.Decider.definitions c.args.decider.now) _ c.args.gamma.now (query_of c.args.condition.now) c.place.result (ty_of c.in_ok-found.found.ty) (Atom kind.Bool) c.in_ok-included.field-0 c.in-No.shown found.answer found.left.definitions c.place.ensures refl c.in-No.is c.in_ok-included.ensures.verdict
+    let answer = has_owned (g.D.Decider.definitions c.args.decider.now) c.args.gamma.now (query_of c.args.condition.now) c.as_ref.result.now c.in_ok-found.found.ty.value c.as_ref.ensures found.answer in
+    condition_refused (g.D.Decider.definitions c.args.decider.now) _ c.args.gamma.now (query_of c.args.condition.now) c.place.result (ty_of c.as_ref.result.now) (Atom kind.Bool) c.in_ok-included.field-0 c.in-No.shown answer found.left.definitions c.place.ensures refl c.in-No.is c.in_ok-included.ensures.verdict
 
 pub type_filter-returns-in_err-from-clause-answer : goal.type_filter-returns-in_err-from-clause-answer
 type_filter-returns-in_err-from-clause-answer g t c = from_fault (g.D.Decider.definitions c.args.decider.now) c.args.gamma.now c.args.span (query_of c.args.from.now) c.args.test.now c.in_err-from.field-0.0 c.from_residual.result c.in_err-from.ensures.answer c.from_residual.ensures.1
@@ -98,14 +99,15 @@ type_filter-returns-in_err-from-clause-answer g t c = from_fault (g.D.Decider.de
 pub type_filter-filtered-requires-clause-usable : goal.type_filter-filtered-requires-clause-usable
 type_filter-filtered-requires-clause-usable g t c =
     let defs = g.D.Decider.definitions c.args.decider.now in
-    let usable = typed_usable defs c.args.gamma.now (query_of c.args.from.now) (ty_of c.in_ok-from.from.ty) c.requires.ready c.in_ok-from.ensures.answer c.in_ok-from.from.limits in
-    usable_same defs _ (ty_of c.in_ok-from.from.ty) (c.defs.ensures.value ∙ c.in_ok-from.ensures.left.definitions) usable
+    let usable = typed_usable defs c.args.gamma.now (query_of c.args.from.now) (ty_of c.in_ok-from.from.ty.value) c.requires.ready c.in_ok-from.ensures.answer c.in_ok-from.from.limits in
+    usable_owned defs _ c.in_ok-trees.trees c.in_ok-from.from.ty.value c.in_ok-trees.ensures (c.defs.ensures.value ∙ c.in_ok-from.ensures.left.definitions) usable
 
 pub type_filter-returns-clause-answer : goal.type_filter-returns-clause-answer
 type_filter-returns-clause-answer g t c =
     let defs = g.D.Decider.definitions c.args.decider.now in
-    let h = maps_same defs _ c.args.span.from (keeping c.args.test.now) (ty_of c.in_ok-from.from.ty) c.filtered.result (c.defs.ensures.value ∙ c.in_ok-from.ensures.left.definitions) c.filtered.ensures in
-    filter_answer defs c.args.gamma.now c.args.span (query_of c.args.from.now) c.args.test.now (ty_of c.in_ok-from.from.ty) c.filtered.result c.in_ok-from.ensures.answer h
+    let h = maps_same defs _ c.args.span.from (keeping c.args.test.now) (ty_of c.in_ok-trees.trees) c.filtered.result (c.defs.ensures.value ∙ c.in_ok-from.ensures.left.definitions) c.filtered.ensures in
+    let answer = has_owned defs c.args.gamma.now (query_of c.args.from.now) c.in_ok-trees.trees c.in_ok-from.from.ty.value c.in_ok-trees.ensures c.in_ok-from.ensures.answer in
+    filter_answer defs c.args.gamma.now c.args.span (query_of c.args.from.now) c.args.test.now (ty_of c.in_ok-trees.trees) c.filtered.result answer h
 
 pub type_each-returns-in_err-over-clause-answer : goal.type_each-returns-in_err-over-clause-answer
 type_each-returns-in_err-over-clause-answer g t c = over_fault (g.D.Decider.definitions c.args.decider.now) c.args.gamma.now c.args.step.now.span c.args.step.now.var (query_of c.args.over.now) (query_of c.args.step.now.body.now) c.in_err-over.field-0.0 c.from_residual.result c.in_err-over.ensures.answer c.from_residual.ensures.1
@@ -121,8 +123,8 @@ type_of-type_variable-requires g t c = (ready_same (g.D.Decider.definitions c.ar
 pub type_of-type_child-requires-clause-usable : goal.type_of-type_child-requires-clause-usable
 type_of-type_child-requires-clause-usable g t c = (ready_same (g.D.Decider.definitions c.args.decider.now) c.defs-in-Child.result.now c.args.gamma.now c.args.gamma.now c.defs-in-Child.ensures.value refl c.requires.ready).usable
 
-pub type_of-returns-in-Lit-clause-answer : goal.type_of-returns-in-Lit-clause-answer
-type_of-returns-in-Lit-clause-answer g t c = literal_answer (g.D.Decider.definitions c.args.decider.now) c.args.gamma.now _ (query_of c.args.query.now) c.in-Lit.atom c.one_atom.result c.kind.result (of_lit c.args.query.now c.in-Lit.atom c.in-Lit.field-1 c.in-Lit.is) c.kind.ensures c.one_atom.ensures
+pub type_of-returns-in_ok-one_atom-in-Lit-clause-answer : goal.type_of-returns-in_ok-one_atom-in-Lit-clause-answer
+type_of-returns-in_ok-one_atom-in-Lit-clause-answer g t c = literal_answer (g.D.Decider.definitions c.args.decider.now) c.args.gamma.now _ (query_of c.args.query.now) c.in-Lit.atom c.in_ok-one_atom-in-Lit.field-0 c.kind.result (of_lit c.args.query.now c.in-Lit.atom c.in-Lit.field-1 c.in-Lit.is) c.kind.ensures c.in_ok-one_atom-in-Lit.ensures
 
 pub type_of-returns-in-Let-clause-answer : goal.type_of-returns-in-Let-clause-answer
 type_of-returns-in-Let-clause-answer g t c = answer_at (g.D.Decider.definitions c.args.decider.now) c.args.gamma.now (query_of c.args.query.now) _ c.type_binding.result (of_let c.args.query.now c.in-Let.var c.in-Let.bound c.in-Let.body c.get-in-Let.result.now c.get-in-Let-2.result.now c.in-Let.field-3 c.in-Let.is c.get-in-Let.ensures c.get-in-Let-2.ensures) (c.type_binding.ensures.answer c.in-Let.field-3)
@@ -131,7 +133,7 @@ pub type_of-returns-in-Same-clause-answer : goal.type_of-returns-in-Same-clause-
 type_of-returns-in-Same-clause-answer g t c = answer_at (g.D.Decider.definitions c.args.decider.now) c.args.gamma.now (query_of c.args.query.now) _ c.type_alike.result (of_same c.args.query.now c.in-Same.left c.in-Same.right c.get-in-Same.result.now c.get-in-Same-2.result.now c.in-Same.field-2 c.in-Same.is c.get-in-Same.ensures c.get-in-Same-2.ensures) (c.type_alike.ensures.answer c.in-Same.field-2)
 
 pub type_all-returns-in_default-clause-answer : goal.type_all-returns-in_default-clause-answer
-type_all-returns-in_default-clause-answer g t c = none_answer (g.D.Decider.definitions c.args.decider.now) c.args.gamma.now c.args.span c.args.queries.now c.nothing.result (no_length c.args.queries.now c.in_default.ensures.cases) c.nothing.ensures
+type_all-returns-in_default-clause-answer g t c = none_answer (g.D.Decider.definitions c.args.decider.now) c.args.gamma.now c.args.span c.args.queries.now c.in_ok-nothing.field-0 (no_length c.args.queries.now c.in_default.ensures.cases) c.in_ok-nothing.ensures
 
 pub type_all-type_of-outcome-requires : goal.type_all-type_of-outcome-requires
 type_all-type_of-outcome-requires g t c κs within =
@@ -167,17 +169,18 @@ pub type_each-type_trees-requires : goal.type_each-type_trees-requires
 type_each-type_trees-requires g t c κs within =
     let defs = g.D.Decider.definitions c.args.decider.now in
     let same = c.in_ok-over.ensures.left.definitions in
-    let ty = ty_of c.in_ok-over.over.ty in
+    let ty = ty_of c.in_ok-over.over.ty.value in
     let ready = ready_same defs _ c.args.gamma.now _ same c.in_ok-over.ensures.left.gamma c.requires.ready in
-    let usable = usable_same defs _ ty same (typed_usable defs c.args.gamma.now (query_of c.args.over.now) ty c.requires.ready c.in_ok-over.ensures.answer c.in_ok-over.over.limits) in
+    let usable = usable_owned defs _ c.in_ok-trees.trees c.in_ok-over.over.ty.value c.in_ok-trees.ensures same (typed_usable defs c.args.gamma.now (query_of c.args.over.now) ty c.requires.ready c.in_ok-over.ensures.answer c.in_ok-over.over.limits) in
     (omega (arith, c.decreases, weight_pos (query_of c.args.over.now)), (search rules, (ready, usable)))
 
 pub type_each-returns-clause-answer : goal.type_each-returns-clause-answer
 type_each-returns-clause-answer g t c =
     let defs = g.D.Decider.definitions c.args.decider.now in
-    let ty = ty_of c.in_ok-over.over.ty in
+    let ty = ty_of c.in_ok-trees.trees in
     let h = returning_same defs _ c.args.gamma.now _ c.args.step.now.span.from c.args.step.now.var (query_of c.args.step.now.body.now) ty c.type_trees.result c.in_ok-over.ensures.left.definitions c.in_ok-over.ensures.left.gamma c.type_trees.ensures.answer in
-    each_answer defs c.args.gamma.now c.args.step.now.span c.args.step.now.var (query_of c.args.over.now) (query_of c.args.step.now.body.now) ty c.type_trees.result c.in_ok-over.ensures.answer h
+    let answer = has_owned defs c.args.gamma.now (query_of c.args.over.now) c.in_ok-trees.trees c.in_ok-over.over.ty.value c.in_ok-trees.ensures c.in_ok-over.ensures.answer in
+    each_answer defs c.args.gamma.now c.args.step.now.span c.args.step.now.var (query_of c.args.over.now) (query_of c.args.step.now.body.now) ty c.type_trees.result answer h
 
 pub type_choice-returns-in_err-no-clause-left : goal.type_choice-returns-in_err-no-clause-left
 type_choice-returns-in_err-no-clause-left g t c = left_by_both (left_by_both c.in_ok-type_condition.ensures.left c.in_ok-yes.ensures.left) c.in_err-no.ensures.left
@@ -222,6 +225,12 @@ type_trees-returns-in-Over-clause-answer g t c =
     let f = returning c.args.gamma.now c.args.step.now.var (query_of c.args.step.now.body.now) in
     mapped defs c.args.step.now.span.from f (turn_over defs (Treated defs f) c.args.step.now.span.from (ty_of c.args.ty) (frames_in c.loop-turn.walk) c.loop-turn.turn c.in-Over.made c.in-Over.is c.loop-turn.invariant.leads)
 
+pub type_trees-measure-requires : goal.type_trees-measure-requires
+type_trees-measure-requires g t c =
+    let defs = g.D.Decider.definitions c.args.decider.now in
+    let f = returning c.args.gamma.now c.args.step.now.var (query_of c.args.step.now.body.now) in
+    (turn_at defs (Treated defs f) c.args.step.now.span.from (ty_of c.args.ty) (frames_in c.loop-turn.walk) c.loop-turn.turn c.in-At.tree c.in-At.is c.loop-turn.invariant.leads).1.limits
+
 pub type_trees-returns-in_err-made-in-At-clause-answer : goal.type_trees-returns-in_err-made-in-At-clause-answer
 type_trees-returns-in_err-made-in-At-clause-answer g t c =
     let defs = g.D.Decider.definitions c.args.decider.now in
@@ -232,7 +241,7 @@ type_trees-returns-in_err-made-in-At-clause-answer g t c =
     let gs = frames_in c.loop-turn.walk in
     let a = ty_of c.in-At.tree in
     let h = turn_at defs (Treated defs f) at whole gs c.loop-turn.turn c.in-At.tree c.in-At.is c.loop-turn.invariant.leads in
-    let fault = under_same defs _ c.args.gamma.now _ c.args.step.now.var a q (Err c.in_err-made-in-At.field-0.0) c.loop-turn.invariant.left.definitions c.loop-turn.invariant.left.gamma c.in_err-made-in-At.ensures.answer in
+    let fault = under_tree defs _ c.args.gamma.now _ c.args.step.now.var c.in_ok-one-in-At.one.ty.value c.in-At.tree q (Err c.in_err-made-in-At.field-0.0) c.in_ok-one-in-At.ensures c.loop-turn.invariant.left.definitions c.loop-turn.invariant.left.gamma c.in_err-made-in-At.ensures.answer in
     answer_mapped defs at f whole c.from_residual-in_err-made-in-At.result
     (tree_fault defs (Treated defs f) at whole gs a c.in_err-made-in-At.field-0.0 c.from_residual-in_err-made-in-At.result h.0 h.2 fault c.from_residual-in_err-made-in-At.ensures.1)
 
@@ -246,10 +255,10 @@ type_trees-returns-in_err-turn-in-At-clause-answer g t c =
     let gs = frames_in c.loop-turn.walk in
     let a = ty_of c.in-At.tree in
     let h = turn_at defs (Treated defs f) at whole gs c.loop-turn.turn c.in-At.tree c.in-At.is c.loop-turn.invariant.leads in
-    let made = under_same defs _ c.args.gamma.now _ c.args.step.now.var a q (Ok c.in_ok-made-in-At.made) c.loop-turn.invariant.left.definitions c.loop-turn.invariant.left.gamma c.in_ok-made-in-At.ensures.answer in
+    let made = under_tree defs _ c.args.gamma.now _ c.args.step.now.var c.in_ok-one-in-At.one.ty.value c.in-At.tree q (Ok c.in_ok-made-in-At.made) c.in_ok-one-in-At.ensures c.loop-turn.invariant.left.definitions c.loop-turn.invariant.left.gamma c.in_ok-made-in-At.ensures.answer in
     let same = c.defs-in-At.ensures.value ∙ c.in_ok-made-in-At.ensures.left.definitions ∙ c.loop-turn.invariant.left.definitions in
     answer_mapped defs at f whole c.from_residual-in_err-turn-in-At.result
-    (next_fault defs (Treated defs f) at whole c.defs-in-At.result.now c.loop-turn.walk.place gs (frames_in c.put.new.self) a (ty_of c.in_ok-made-in-At.made.ty) c.in_err-turn-in-At.field-0.0 c.from_residual-in_err-turn-in-At.result same c.loop-turn.invariant.place h.0 h.2 made c.in_ok-made-in-At.made.limits c.in_err-turn-in-At.ensures.turn c.from_residual-in_err-turn-in-At.ensures.1)
+    (next_fault defs (Treated defs f) at whole c.defs-in-At.result.now c.loop-turn.walk.place gs (frames_in c.put.new.self) a (ty_of c.in_ok-made-in-At.made.ty.value) c.in_err-turn-in-At.field-0.0 c.from_residual-in_err-turn-in-At.result same c.loop-turn.invariant.place h.0 h.2 made c.in_ok-made-in-At.made.limits c.in_err-turn-in-At.ensures.turn c.from_residual-in_err-turn-in-At.ensures.1)
 
 pub type_trees-loop-turn-smaller : goal.type_trees-loop-turn-smaller
 type_trees-loop-turn-smaller g t c =
@@ -258,7 +267,7 @@ type_trees-loop-turn-smaller g t c =
     let gs = frames_in c.loop-turn.walk in
     let h = turn_at defs (Treated defs f) c.args.step.now.span.from (ty_of c.args.ty) gs c.loop-turn.turn c.in-At.tree c.in-At.is c.loop-turn.invariant.leads in
     let same = c.defs-in-At.ensures.value ∙ c.in_ok-made-in-At.ensures.left.definitions ∙ c.loop-turn.invariant.left.definitions in
-    turn_less defs c.defs-in-At.result.now c.loop-turn.walk.place gs (frames_in c.put.new.self) c.in-At.tree (ty_of c.in_ok-made-in-At.made.ty) c.loop-turn.turn c.in_ok-turn-in-At.turn same c.requires.ready.kept c.in-At.is h.0 c.in_ok-turn-in-At.ensures.turn
+    turn_less defs c.defs-in-At.result.now c.loop-turn.walk.place gs (frames_in c.put.new.self) c.in-At.tree (ty_of c.in_ok-made-in-At.made.ty.value) c.loop-turn.turn c.in_ok-turn-in-At.turn same c.requires.ready.kept c.in-At.is h.0 c.in_ok-turn-in-At.ensures.turn
 
 pub type_trees-loop-turn-preserved : goal.type_trees-loop-turn-preserved
 type_trees-loop-turn-preserved g t c =
@@ -270,11 +279,11 @@ type_trees-loop-turn-preserved g t c =
     let gs = frames_in c.loop-turn.walk in
     let a = ty_of c.in-At.tree in
     let h = turn_at defs (Treated defs f) at whole gs c.loop-turn.turn c.in-At.tree c.in-At.is c.loop-turn.invariant.leads in
-    let made = under_same defs _ c.args.gamma.now _ c.args.step.now.var a q (Ok c.in_ok-made-in-At.made) c.loop-turn.invariant.left.definitions c.loop-turn.invariant.left.gamma c.in_ok-made-in-At.ensures.answer in
+    let made = under_tree defs _ c.args.gamma.now _ c.args.step.now.var c.in_ok-one-in-At.one.ty.value c.in-At.tree q (Ok c.in_ok-made-in-At.made) c.in_ok-one-in-At.ensures c.loop-turn.invariant.left.definitions c.loop-turn.invariant.left.gamma c.in_ok-made-in-At.ensures.answer in
     let same = c.defs-in-At.ensures.value ∙ c.in_ok-made-in-At.ensures.left.definitions ∙ c.loop-turn.invariant.left.definitions in
     record {
       left = left_by_both c.loop-turn.invariant.left c.in_ok-made-in-At.ensures.left;
       place = c.in_ok-turn-in-At.ensures.place ∙ c.loop-turn.invariant.place;
       waiting = waiting_as defs c.defs-in-At.result.now (frames_in c.put.new.self) same c.in_ok-turn-in-At.ensures.waiting;
-      leads = next_leads defs (Treated defs f) at whole c.defs-in-At.result.now c.loop-turn.walk.place gs (frames_in c.put.new.self) a (ty_of c.in_ok-made-in-At.made.ty) c.in_ok-turn-in-At.turn same c.loop-turn.invariant.place h.0 h.2 made c.in_ok-made-in-At.made.limits c.in_ok-turn-in-At.ensures.turn;
+      leads = next_leads defs (Treated defs f) at whole c.defs-in-At.result.now c.loop-turn.walk.place gs (frames_in c.put.new.self) a (ty_of c.in_ok-made-in-At.made.ty.value) c.in_ok-turn-in-At.turn same c.loop-turn.invariant.place h.0 h.2 made c.in_ok-made-in-At.made.limits c.in_ok-turn-in-At.ensures.turn;
     }

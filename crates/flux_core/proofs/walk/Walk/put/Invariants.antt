@@ -9,7 +9,7 @@ use Rattle.flux_core.proofs.walk.Walk.put.Given as goal
 abbrev pub invariant-loop-frame : goal.invariant-loop-frame
 invariant-loop-frame l = record {
   place : l.self.place ≡ l.fn.self.place;
-  upward : Upward l.defs (behind (frames_of l.fn.self.frames.items) (ty_of l.fn.made.ty)) (frames_of l.self.frames.items) (ty_of l.made.ty);
+  upward : Upward l.defs (behind (frames_of l.fn.self.frames.items) (ty_of l.fn.made.ty.value)) (frames_of l.self.frames.items) (ty_of l.made.ty.value);
 }
 
 abbrev pub decreases-loop-frame : goal.decreases-loop-frame
