@@ -392,8 +392,11 @@ fn starts_stay(rt: HostRuntime) -> Result<(), Fail> {
     Ok(())
 }
 
-// More names than calls that nest have room for.
-const CHAIN: u32 = 20_000;
+// More names than calls that nest have room for: as many as a script has room for, and fewer where
+// each has a part beside it.
+const CHAIN: u32 = 60_000;
+
+const CHOICES: u32 = 20_000;
 
 #[tactic(auto, using(flux_types::proofs::KeptLaws::counts))]
 fn declare_many(
@@ -427,21 +430,24 @@ fn chain(
     rt: &impl Abort,
     alloc: Global,
     names: &mut Names,
+    count: u32,
     last: Name,
     beside: Option<Name>,
-) -> Result<Defs, Fail> {
-    let mut draft = declare_many(rt, alloc, names, CHAIN)?;
-    for index in 1..CHAIN {
+) -> Result<Defs, Fail>
+    requires { 0 < count }
+{
+    let mut draft = declare_many(rt, alloc, names, count)?;
+    for index in 1..count {
         set(
             rt,
             &mut draft,
-            CHAIN,
+            count,
             index - 1,
             link(alloc, index, beside)?,
         )?;
     }
     let body = ty(alloc, &[Element(last), Nothing])?;
-    set(rt, &mut draft, CHAIN, CHAIN - 1, body)?;
+    set(rt, &mut draft, count, count - 1, body)?;
     Ok(draft.close()?)
 }
 
@@ -451,10 +457,10 @@ fn chains_of_names(rt: HostRuntime) -> Result<(), Fail> {
     let mut names = Names::new(alloc);
     let a = label(&rt, &mut names, "a")?;
     let b = label(&rt, &mut names, "b")?;
-    let plain = chain(&rt, alloc, &mut names, a, None)?;
+    let plain = chain(&rt, alloc, &mut names, CHAIN, a, None)?;
     assert_member(&rt, alloc, &plain, &[Named(0)], &[Begin(a), End], true)?;
     assert_member(&rt, alloc, &plain, &[Named(0)], &[Begin(b), End], false)?;
-    let choices = chain(&rt, alloc, &mut names, a, Some(b))?;
+    let choices = chain(&rt, alloc, &mut names, CHOICES, a, Some(b))?;
     assert_member(&rt, alloc, &choices, &[Named(0)], &[Begin(a), End], true)?;
     assert_member(&rt, alloc, &choices, &[Named(0)], &[Begin(b), End], true)
 }

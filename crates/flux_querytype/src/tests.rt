@@ -773,7 +773,7 @@ fn a_binding_for_each_of_a_thousand_trees(rt: HostRuntime) -> Result<(), Fail> {
     Ok(())
 }
 
-const CHAIN: u32 = 20_000;
+const CHAIN: u32 = 60_000;
 
 #[tactic(auto, using(flux_types::proofs::KeptLaws::counts))]
 fn declare_many(rt: &impl Abort, alloc: Global, draft: &mut Draft, count: u32) -> Result<(), Fail>

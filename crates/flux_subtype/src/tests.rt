@@ -277,8 +277,11 @@ fn names_and_atoms(rt: HostRuntime) -> Result<(), Fail> {
     assert_cases(&rt, alloc, &at, text, &wants)
 }
 
-// More names than calls that nest have room for.
-const CHAIN: u32 = 20_000;
+// More names than calls that nest have room for: as many as a script has room for, and fewer where
+// each has a part beside it.
+const CHAIN: u32 = 60_000;
+
+const CHOICES: u32 = 20_000;
 
 // A name, or its choice with an empty element.
 fn link(alloc: Global, index: u32, beside: Option<Name>) -> Result<Ty, AllocError> {
@@ -293,21 +296,24 @@ fn chain(
     rt: &impl Abort,
     alloc: Global,
     names: &mut Names,
+    count: u32,
     last: Name,
     beside: Option<Name>,
-) -> Result<Defs, Fail> {
-    let mut draft = declare_many(rt, alloc, names, CHAIN)?;
-    for index in 1..CHAIN {
+) -> Result<Defs, Fail>
+    requires { 0 < count }
+{
+    let mut draft = declare_many(rt, alloc, names, count)?;
+    for index in 1..count {
         set(
             rt,
             &mut draft,
-            CHAIN,
+            count,
             index - 1,
             link(alloc, index, beside)?,
         )?;
     }
     let body = ty(alloc, &[Element(last), Nothing])?;
-    set(rt, &mut draft, CHAIN, CHAIN - 1, body)?;
+    set(rt, &mut draft, count, count - 1, body)?;
     Ok(draft.close()?)
 }
 
@@ -319,10 +325,10 @@ fn chains_of_names(rt: HostRuntime) -> Result<(), Fail> {
     let b = label(&rt, &mut names, "b")?;
     let head = Ty::Named(0);
     let last = ty(alloc, &[Element(a), Nothing])?;
-    let plain = chain(&rt, alloc, &mut names, a, None)?;
+    let plain = chain(&rt, alloc, &mut names, CHAIN, a, None)?;
     assert_included(&rt, alloc, &plain, &head, &last, true)?;
     assert_included(&rt, alloc, &plain, &last, &head, true)?;
-    let choices = chain(&rt, alloc, &mut names, a, Some(b))?;
+    let choices = chain(&rt, alloc, &mut names, CHOICES, a, Some(b))?;
     assert_included(&rt, alloc, &choices, &head, &last, false)?;
     assert_included(&rt, alloc, &choices, &last, &head, true)
 }

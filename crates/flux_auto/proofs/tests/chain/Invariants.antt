@@ -2,4 +2,4 @@ use Rattle.std.proofs.Common.{◌≡◌, length}
 use Rattle.flux_auto.proofs.tests.chain.Given as goal
 
 abbrev pub invariant-loop-index : goal.invariant-loop-index
-invariant-loop-index g l = length l.draft ≡ 20000
+invariant-loop-index g l = length l.draft ≡ l.fn.count
