@@ -3,13 +3,12 @@ use Rattle.std.proofs.Common.{◌≡◌, ◌⊎◌, ℕ, List, [], ◌∷◌, So
 use Rattle.flux_atom.specs.declared.atom.Atom.{Atom as Value}
 use Rattle.flux_atom.specs.declared.atom.AtomKind.{AtomKind}
 use Rattle.flux_atom.specs.Atom.{kind_of}
-use Rattle.std.proofs.lemmas.Bool.{or_right}
+use Rattle.std.proofs.lemmas.Bool.{or_right, and_parts}
 use Rattle.flux_trees.specs.Hedge.{Plain, nil, elem, leaf, join}
 use Rattle.flux_trees.proofs.HedgeLaws.{join-nil, join_assoc}
 use Rattle.flux_schema.specs.Ty.{Ty, empty, atom, element, seq, alt, star, named}
 use Rattle.flux_schema.specs.Definitions.{Definitions, body_of}
 use Rattle.flux_schema.specs.Member.{Member, in_empty, in_atom, in_element, in_seq, in_left, in_right, in_done, in_more, in_name}
-use Rattle.flux_schema.proofs.SameLaws.{both_true}
 use Rattle.flux_auto.specs.Standing.{In, Starts, empties}
 use Rattle.flux_auto.proofs.Items.{some_is}
 
@@ -75,7 +74,7 @@ module _ (defs : Definitions) where
   empties-sound q s empty e = in_empty
   empties-sound q s (atom a) e = cc
   empties-sound q s (element n t) e = cc
-  empties-sound q s (seq t u) e = let p = both_true _ _ e in in_seq nil nil refl (empties-sound q s t p.0) (empties-sound q s u p.1)
+  empties-sound q s (seq t u) e = let p = and_parts _ _ e in in_seq nil nil refl (empties-sound q s t p.0) (empties-sound q s u p.1)
   empties-sound q s (alt t u) e = elim (either _ _ e) [ inl h ↦ in_left u (empties-sound q s t h) | inr h ↦ in_right t (empties-sound q s u h) ]
   empties-sound q s (star t) e = in_done t
   empties-sound q s (named x) e = s x e

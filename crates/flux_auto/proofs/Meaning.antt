@@ -1,7 +1,7 @@
 -- The states of a complete table take what they stand for.
 use Rattle.std.proofs.Common.{◌≡◌, ℕ, zero, suc, ◌⊎◌, ◌<◌, List, [], ◌∷◌, length, Some, slice_get, Bool, true, false, ◌||◌, ◌↔◌, map, refl, sym, ap, subst, ◌∙◌, inl, inr, arith, length-append}
 use Rattle.std.specs.List.{list_any}
-use Rattle.std.proofs.lemmas.Bool.{eqb-true, eq-eqb}
+use Rattle.std.proofs.lemmas.Bool.{eqb-true, eq-eqb, and_parts}
 use Rattle.std.proofs.lemmas.Option.{slice_get_within}
 use Rattle.std.specs.Cmp.Derive.{both_true as two}
 use Rattle.flux_atom.specs.declared.atom.Atom.{Atom as Value}
@@ -11,7 +11,7 @@ use Rattle.flux_schema.specs.Ty.{Ty}
 use Rattle.flux_schema.specs.Tidy.{same_kind}
 use Rattle.flux_schema.specs.Definitions.{Definitions}
 use Rattle.flux_schema.specs.Member.{Member}
-use Rattle.flux_schema.proofs.SameLaws.{both_true, same_kind-eq, same_kind-same}
+use Rattle.flux_schema.proofs.SameLaws.{same_kind-eq, same_kind-same}
 use Rattle.flux_auto.specs.declared.edge.Edge.{Edge}
 use Rattle.flux_auto.specs.declared.edge.Edge.TheVariants.{Atom, Elem}
 use Rattle.flux_auto.specs.declared.table.Row.{Row}
@@ -57,13 +57,13 @@ module _ (defs : Definitions) (ts : List (List Ty)) (n : ℕ) where
   by_element : (a : ℕ) (p q : List Bool) (c r : Plain) → Tells p c → Tells q r → (e : Edge) → EdgeBelow n e → (goes_by_element a p q e ≡ true) ↔ Follows defs ts e (elem tt a c r)
   by_element a p q c r t u (Atom k i) w = (λ e. cc, λ h. absurd h)
   by_element a p q c r t u (Elem l i j) w = (
-    λ e. let x = both_true _ _ e in let y = both_true _ _ x.1 in (eqb-true l a x.0, (t i w.0).0 y.0, (u j w.1).0 y.1),
+    λ e. let x = and_parts _ _ e in let y = and_parts _ _ x.1 in (eqb-true l a x.0, (t i w.0).0 y.0, (u j w.1).0 y.1),
     λ h. two (eq-eqb l a h.0) (two ((t i w.0).1 h.1) ((u j w.1).1 h.2)),
   )
 
   by_atom : (x : Value) (q : List Bool) (r : Plain) → Tells q r → (e : Edge) → EdgeBelow n e → (goes_by_atom (kind_of x) q e ≡ true) ↔ Follows defs ts e (leaf tt x r)
   by_atom x q r u (Atom k i) w = (
-    λ e. let y = both_true _ _ e in (same_kind-eq k (kind_of x) y.0, (u i w).0 y.1),
+    λ e. let y = and_parts _ _ e in (same_kind-eq k (kind_of x) y.0, (u i w).0 y.1),
     λ h. two (subst (λ y. same_kind k y ≡ true) h.0 (same_kind-same k)) ((u i w).1 h.1),
   )
   by_atom x q r u (Elem l i j) w = (λ e. cc, λ h. absurd h)

@@ -1,13 +1,13 @@
 -- The states take what the law of the profiles says.
 use Rattle.std.proofs.Common.{◌≡◌, ℕ, zero, suc, ◌⊎◌, ◌↔◌, List, [], ◌∷◌, Bool, true, false, ◌||◌, Some, slice_get, map, refl, sym, ap, ◌∙◌, inl, inr}
 use Rattle.std.specs.List.{list_any}
-use Rattle.std.proofs.lemmas.Bool.{eqb-true, eq-eqb}
+use Rattle.std.proofs.lemmas.Bool.{eqb-true, eq-eqb, and_parts}
 use Rattle.std.specs.Cmp.Derive.{both_true as two}
 use Rattle.flux_atom.specs.declared.atom.AtomKind.{AtomKind}
 use Rattle.flux_atom.specs.Atom.{kind_of}
 use Rattle.flux_trees.specs.Hedge.{Plain}
 use Rattle.flux_schema.specs.Tidy.{same_kind}
-use Rattle.flux_schema.proofs.SameLaws.{both_true, same_kind-eq, same_kind-same}
+use Rattle.flux_schema.proofs.SameLaws.{same_kind-eq, same_kind-same}
 use Rattle.flux_auto.specs.declared.edge.Edge.{Edge}
 use Rattle.flux_auto.specs.declared.edge.Edge.TheVariants.{Atom, Elem}
 use Rattle.flux_auto.specs.Takes.{State, has, goes_by_element, goes_by_atom, profile}
@@ -35,13 +35,13 @@ state_goes states s state test P e f =
 by_element : (states : List State) (n : ℕ) (c r : Plain) (e : Edge) → (goes_by_element n (profile states c) (profile states r) e ≡ true) ↔ GoesByElement states n c r e
 by_element states n c r (Atom k q) = (λ e. cc, λ h. absurd h)
 by_element states n c r (Elem m i q) = (
-  λ e. let x = both_true _ _ e in let y = both_true _ _ x.1 in (eqb-true m n x.0, y.0, y.1),
+  λ e. let x = and_parts _ _ e in let y = and_parts _ _ x.1 in (eqb-true m n x.0, y.0, y.1),
   λ h. two (eq-eqb m n h.0) (two h.1 h.2),
 )
 
 by_atom : (states : List State) (k : AtomKind) (r : Plain) (e : Edge) → (goes_by_atom k (profile states r) e ≡ true) ↔ GoesByAtom states k r e
 by_atom states k r (Atom j q) = (
-  λ e. let x = both_true _ _ e in (same_kind-eq j k x.0, x.1),
+  λ e. let x = and_parts _ _ e in (same_kind-eq j k x.0, x.1),
   λ h. two (ap (same_kind j) (sym h.0) ∙ same_kind-same j) h.1,
 )
 by_atom states k r (Elem m i q) = (λ e. cc, λ h. absurd h)

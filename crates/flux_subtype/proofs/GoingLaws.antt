@@ -1,6 +1,7 @@
 -- A state takes a forest that isn't empty exactly where it goes by the first tree to a state that
 -- takes the others.
 use Rattle.std.proofs.Common.{◌≡◌, ◌↔◌, ℕ, zero, suc, ◌||◌, ◌==◌, List, [], ◌∷◌, map, Bool, true, false, Some, slice_get, refl, sym, ap, subst, ◌∙◌, inl, inr}
+use Rattle.std.proofs.lemmas.Bool.{and_parts}
 use Rattle.std.specs.List.{list_any}
 use Rattle.std.proofs.lemmas.Bool.Decides.{eqb_tells}
 use Rattle.std.proofs.lemmas.Map.Keys.{any_passes_from_place}
@@ -9,7 +10,7 @@ use Rattle.flux_atom.specs.declared.atom.AtomKind.{AtomKind}
 use Rattle.flux_atom.specs.Atom.{kind_of}
 use Rattle.flux_trees.specs.Hedge.{Plain, nil, elem, leaf, others}
 use Rattle.flux_schema.specs.Tidy.{same_kind}
-use Rattle.flux_schema.proofs.SameLaws.{both_true, same_kind-eq, same_kind-same}
+use Rattle.flux_schema.proofs.SameLaws.{same_kind-eq, same_kind-same}
 use Rattle.flux_auto.specs.declared.edge.Edge.{Edge}
 use Rattle.flux_auto.specs.declared.edge.Edge.TheVariants.{Atom, Elem}
 use Rattle.flux_auto.specs.Takes.{State, has, goes_by_element, goes_by_atom, takes}
@@ -45,8 +46,8 @@ equal_is n = elim (eqb_tells n n) [ inl h ↦ h.0 | inr h ↦ absurd (h.1 refl) 
 by_element : (n : ℕ) (p q : List Bool) (e : Edge) → goes_by_element n p q e ≡ true → (c : ℕ) × (r : ℕ) × (e ≡ Elem n c r) × (has p c ≡ true) × (has q r ≡ true)
 by_element n p q (Atom k r) h = cc
 by_element n p q (Elem m c r) h =
-    let a = both_true (m == n) _ h in
-    let b = both_true (has p c) (has q r) a.1 in
+    let a = and_parts (m == n) _ h in
+    let b = and_parts (has p c) (has q r) a.1 in
     (c, r, ap (λ x. Elem x c r) (equal m n a.0), b.0, b.1)
 
 element_by : (n : ℕ) (p q : List Bool) (c r : ℕ) → has p c ≡ true → has q r ≡ true → goes_by_element n p q (Elem n c r) ≡ true
@@ -54,7 +55,7 @@ element_by n p q c r h g = two (equal_is n) (two h g)
 
 by_atom : (k : AtomKind) (q : List Bool) (e : Edge) → goes_by_atom k q e ≡ true → (r : ℕ) × (e ≡ Atom k r) × (has q r ≡ true)
 by_atom k q (Atom j r) h =
-    let a = both_true (same_kind j k) (has q r) h in
+    let a = and_parts (same_kind j k) (has q r) h in
     (r, ap (λ x. Atom x r) (same_kind-eq j k a.0), a.1)
 by_atom k q (Elem m c r) h = cc
 
