@@ -1,12 +1,12 @@
 -- The machine of strings and the grammar of their items agree.
-use Rattle.std.proofs.Common.{◌≡◌, ℕ, List, [], ◌∷◌, ◌++◌, Option, Some, None, IsSome, IsUtf8, refl, sym, ap, subst, ◌∙◌, append-nil}
+use Rattle.std.proofs.Common.{◌≡◌, ℕ, List, [], ◌∷◌, ◌++◌, Option, Some, None, IsSome, IsUtf8, refl, sym, ap, ◌∙◌}
 use Rattle.std.proofs.lemmas.Bool.{false≢true}
 use Rattle.flux_atom.specs.declared.text.TextState.{TextState}
 use Rattle.flux_atom.specs.declared.text.TextState.TheVariants.{Between}
 use Rattle.flux_atom.specs.Literal.{quote}
 use Rattle.flux_atom.specs.Spelling.{AreItems}
 use Rattle.flux_atom.specs.Strings.{BeginItems, TextReaderFollowsGrammar}
-use Rattle.flux_atom.specs.TextSteps.{TextStep, on, closes, text_step, TextRead, read_on, and_read, no_text, read_text, IsReached}
+use Rattle.flux_atom.specs.TextSteps.{on, closes, text_step, TextRead, read_on, and_read, no_text, read_text, IsReached}
 use Rattle.flux_atom.proofs.TextLaws.{closes_at_quote, items_read, items_utf8, read_items, read_text-append, read_then, text_can_end}
 
 begins_from : (bytes : List ℕ) (x : Option TextRead) → read_text no_text bytes ≡ x → IsSome x → BeginItems bytes

@@ -9,14 +9,14 @@ use Rattle.flux_atom.specs.declared.atom.AtomKind.{AtomKind}
 use Rattle.flux_atom.specs.declared.atom.AtomKind.TheVariants as kind
 use Rattle.flux_schema.specs.Tidy.{same_kind}
 use Rattle.flux_auto.specs.declared.edge.Edge.{Edge}
-use Rattle.flux_auto.specs.declared.edge.Edge.TheVariants.{Atom, Elem}
+use Rattle.flux_auto.specs.declared.edge.Edge.TheVariants.{Atom, Elem, AnyElem}
 use Rattle.flux_auto.specs.declared.table.Row.{Row}
 use Rattle.flux_auto.specs.declared.arcs.Arc.{Arc}
 use Rattle.flux_auto.specs.declared.arcs.Leap.{Leap}
 use Rattle.flux_auto.specs.declared.arcs.Arcs.{Arcs}
 use Rattle.flux_auto.specs.Takes.{State, has, goes_by_element, goes_by_atom, profile_element, profile_atom}
 use Rattle.flux_auto.specs.Built.{state_of}
-use Rattle.flux_auto.specs.Arcs.{leaving, edges_from, arc_of, arcs_of, leap_of, leaps_of, arcs_at, leaps_at, Adds, IsIndex, mark_by_arc, mark_by_arcs, mark_by_leap, mark_by_leaps}
+use Rattle.flux_auto.specs.Arcs.{leaving, edges_from, arc_of, arcs_of, any_arc_of, any_arcs_of, leap_of, leaps_of, arcs_at, leaps_at, Adds, IsIndex, mark_by_arc, mark_by_arcs, mark_by_leap, mark_by_leaps}
 use Rattle.flux_auto.proofs.Meaning.{length-map}
 
 -- ---- places
@@ -62,16 +62,21 @@ arcs_of-append : (n : ℕ) (es fs : List (ℕ × Edge)) → arcs_of n (es ++ fs)
 arcs_of-append n [] fs = refl
 arcs_of-append n (e ∷ es) fs = ap (λ l. arc_of n e.0 e.1 ++ l) (arcs_of-append n es fs) ∙ sym (append_assoc (arc_of n e.0 e.1) (arcs_of n es) (arcs_of n fs))
 
+any_arcs_of-append : (es fs : List (ℕ × Edge)) → any_arcs_of (es ++ fs) ≡ any_arcs_of es ++ any_arcs_of fs
+any_arcs_of-append [] fs = refl
+any_arcs_of-append (e ∷ es) fs = ap (λ l. any_arc_of e.0 e.1 ++ l) (any_arcs_of-append es fs) ∙ sym (append_assoc (any_arc_of e.0 e.1) (any_arcs_of es) (any_arcs_of fs))
+
 leaps_of-append : (k : AtomKind) (es fs : List (ℕ × Edge)) → leaps_of k (es ++ fs) ≡ leaps_of k es ++ leaps_of k fs
 leaps_of-append k [] fs = refl
 leaps_of-append k (e ∷ es) fs = ap (λ l. leap_of k e.0 e.1 ++ l) (leaps_of-append k es fs) ∙ sym (append_assoc (leap_of k e.0 e.1) (leaps_of k es) (leaps_of k fs))
 
 pub adds_none : (a : Arcs) → Adds a a []
-adds_none a = record { arcs = λ n. sym (append-nil (arcs_at a.by_label.items n)); leaps = λ k. sym (append-nil (leaps_at a k)) }
+adds_none a = record { arcs = λ n. sym (append-nil (arcs_at a.by_label.items n)); any = sym (append-nil a.any_label.items); leaps = λ k. sym (append-nil (leaps_at a k)) }
 
 adds_then : (a b c : Arcs) (es fs : List (ℕ × Edge)) → Adds a b es → Adds b c fs → Adds a c (es ++ fs)
 adds_then a b c es fs x y = record {
   arcs = λ n. y.arcs n ∙ ap (λ l. l ++ arcs_of n fs) (x.arcs n) ∙ append_assoc (arcs_at a.by_label.items n) (arcs_of n es) (arcs_of n fs) ∙ ap (λ l. arcs_at a.by_label.items n ++ l) (sym (arcs_of-append n es fs));
+  any = y.any ∙ ap (λ l. l ++ any_arcs_of fs) x.any ∙ append_assoc a.any_label.items (any_arcs_of es) (any_arcs_of fs) ∙ ap (λ l. a.any_label.items ++ l) (sym (any_arcs_of-append es fs));
   leaps = λ k. y.leaps k ∙ ap (λ l. l ++ leaps_of k fs) (x.leaps k) ∙ append_assoc (leaps_at a k) (leaps_of k es) (leaps_of k fs) ∙ ap (λ l. leaps_at a k ++ l) (sym (leaps_of-append k es fs));
 }
 
@@ -81,15 +86,17 @@ adds_next a b c s edges i e d x y lt is =
     (adds_then a b c (leaving s (take i edges)) ((s, e) ∷ []) x y)
 
 pub adds_arc : (a b : Arcs) (vs : List (Vec Arc Global)) (label m : ℕ) (v d : Vec Arc Global) (arc : Arc) → ((n : ℕ) → arcs_at vs n ≡ arcs_at a.by_label.items n) → m ≡ label → m < length vs → v.items ≡ (get_or vs m d).items ++ arc ∷ []
-    → b.by_label.items ≡ set vs m v → b.texts.items ≡ a.texts.items → b.truths.items ≡ a.truths.items → Adds a b ((arc.source, Elem label arc.content arc.next) ∷ [])
-adds_arc a b vs label m v d arc same is lt pushed here texts truths = record {
+    → b.by_label.items ≡ set vs m v → b.any_label.items ≡ a.any_label.items → b.texts.items ≡ a.texts.items → b.truths.items ≡ a.truths.items → b.numbers.items ≡ a.numbers.items → Adds a b ((arc.source, Elem label arc.content arc.next) ∷ [])
+adds_arc a b vs label m v d arc same is lt pushed here any texts truths numbers = record {
   arcs = λ n. ap (λ l. arcs_at l n) here ∙ arcs_at_set vs m v d arc n lt pushed ∙ ap₂ (λ l x. l ++ x) (same n) (ap (λ x. if x == n then arc ∷ [] else []) is ∙ sym (append-nil (if label == n then arc ∷ [] else [])));
+  any = any ∙ sym (append-nil a.any_label.items);
   leaps = kept;
 }
   where
     kept : (k : AtomKind) → leaps_at b k ≡ leaps_at a k ++ []
     kept kind.Bool = truths ∙ sym (append-nil a.truths.items)
     kept kind.Text = texts ∙ sym (append-nil a.texts.items)
+    kept kind.Int = numbers ∙ sym (append-nil a.numbers.items)
 
 -- ---- rows
 
@@ -113,6 +120,7 @@ index_next rows a b i r x lt is y =
     ∙ ap (λ n. edges_from 0 states ++ leaving n r.edges.items) (omega (arith, length-map state_of (take i rows), length-take rows i (omega (arith, lt)))) in
     record {
       arcs = λ n. y.arcs n ∙ ap (λ l. l ++ arcs_of n (leaving i r.edges.items)) (x.arcs n) ∙ sym (arcs_of-append n (edges_from 0 states) (leaving i r.edges.items)) ∙ ap (arcs_of n) (sym more);
+      any = y.any ∙ ap (λ l. l ++ any_arcs_of (leaving i r.edges.items)) x.any ∙ sym (any_arcs_of-append (edges_from 0 states) (leaving i r.edges.items)) ∙ ap any_arcs_of (sym more);
       leaps = λ k. y.leaps k ∙ ap (λ l. l ++ leaps_of k (leaving i r.edges.items)) (x.leaps k) ∙ sym (leaps_of-append k (edges_from 0 states) (leaving i r.edges.items)) ∙ ap (leaps_of k) (sym more);
     }
 
@@ -149,16 +157,24 @@ mark_state goes before behind b s e (f ∷ edges) =
     ap (λ l. mark_all goes l (leaving s edges)) (one_mark before behind b (goes f) s e) ∙ mark_state goes before behind (b || goes f) s e edges
     ∙ ap (λ x. before ++ x ∷ behind) (or_assoc b (goes f) (list_any goes edges))
 
-mark_states : (goes : Edge → Bool) (states : List State) (before : List Bool) (s : ℕ) → length before ≡ s
-    → mark_all goes (before ++ replicate (length states) false) (edges_from s states) ≡ before ++ map (λ (t : State). list_any goes t.edges) states
-mark_states goes [] before s e = refl
-mark_states goes (t ∷ ts) before s e =
-    let any = list_any goes t.edges in
-    let clear = replicate (length ts) false in
-    let rest = map (λ (u : State). list_any goes u.edges) ts in
-    mark_all-append goes (before ++ false ∷ clear) (leaving s t.edges) (edges_from (suc s) ts)
-    ∙ ap (λ l. mark_all goes l (edges_from (suc s) ts)) (mark_state goes before clear false s e t.edges ∙ sym (append_assoc before (any ∷ []) clear))
-    ∙ mark_states goes ts (before ++ any ∷ []) (suc s) (omega (arith, e, length-append before (any ∷ []))) ∙ append_assoc before (any ∷ []) rest
+-- the marks that f gives, and more marks by the edges
+mark_more : (goes : Edge → Bool) (f : State → Bool) (states : List State) (before : List Bool) (s : ℕ) → length before ≡ s
+    → mark_all goes (before ++ map f states) (edges_from s states) ≡ before ++ map (λ (t : State). f t || list_any goes t.edges) states
+mark_more goes f [] before s e = refl
+mark_more goes f (t ∷ ts) before s e =
+    let any = f t || list_any goes t.edges in
+    let were = map f ts in
+    let rest = map (λ (u : State). f u || list_any goes u.edges) ts in
+    mark_all-append goes (before ++ f t ∷ were) (leaving s t.edges) (edges_from (suc s) ts)
+    ∙ ap (λ l. mark_all goes l (edges_from (suc s) ts)) (mark_state goes before were (f t) s e t.edges ∙ sym (append_assoc before (any ∷ []) were))
+    ∙ mark_more goes f ts (before ++ any ∷ []) (suc s) (omega (arith, e, length-append before (any ∷ []))) ∙ append_assoc before (any ∷ []) rest
+
+clear_map : (states : List State) → replicate (length states) false ≡ map (λ (t : State). false) states
+clear_map [] = refl
+clear_map (t ∷ ts) = ap (λ l. false ∷ l) (clear_map ts)
+
+mark_states : (goes : Edge → Bool) (states : List State) → mark_all goes (replicate (length states) false) (edges_from 0 states) ≡ map (λ (t : State). list_any goes t.edges) states
+mark_states goes states = ap (λ l. mark_all goes l (edges_from 0 states)) (clear_map states) ∙ mark_more goes (λ t. false) states [] 0 refl
 
 -- ---- marks by the edges of a label or a kind
 
@@ -180,22 +196,74 @@ if_arc : (p q marks : List Bool) (b : Bool) (a : Arc) → mark_by_arcs p q marks
 if_arc p q marks true a = refl
 if_arc p q marks false a = refl
 
-one_arc : (n : ℕ) (p q marks : List Bool) (s : ℕ) (e : Edge) → mark_by_arcs p q marks (arc_of n s e) ≡ (if goes_by_element n p q e then set marks s true else marks)
+-- an edge goes by an element with the label alone, or by one of any label
+abbrev goes_by_label : ℕ → List Bool → List Bool → Edge → Bool
+goes_by_label n p q (Atom k r) = false
+goes_by_label n p q (Elem m c r) = (m == n) && (has p c && has q r)
+goes_by_label n p q (AnyElem c r) = false
+
+abbrev goes_by_any : List Bool → List Bool → Edge → Bool
+goes_by_any p q (Atom k r) = false
+goes_by_any p q (Elem m c r) = false
+goes_by_any p q (AnyElem c r) = has p c && has q r
+
+one_arc : (n : ℕ) (p q marks : List Bool) (s : ℕ) (e : Edge) → mark_by_arcs p q marks (arc_of n s e) ≡ (if goes_by_label n p q e then set marks s true else marks)
 one_arc n p q marks s (Atom k r) = refl
 one_arc n p q marks s (Elem m c r) = if_arc p q marks (m == n) (record { source = s; content = c; next = r })
+one_arc n p q marks s (AnyElem c r) = refl
 
-arcs_all : (n : ℕ) (p q marks : List Bool) (edges : List (ℕ × Edge)) → mark_by_arcs p q marks (arcs_of n edges) ≡ mark_all (goes_by_element n p q) marks edges
+arcs_all : (n : ℕ) (p q marks : List Bool) (edges : List (ℕ × Edge)) → mark_by_arcs p q marks (arcs_of n edges) ≡ mark_all (goes_by_label n p q) marks edges
 arcs_all n p q marks [] = refl
 arcs_all n p q marks (e ∷ edges) =
     mark_by_arcs-append p q marks (arc_of n e.0 e.1) (arcs_of n edges) ∙ ap (λ l. mark_by_arcs p q l (arcs_of n edges)) (one_arc n p q marks e.0 e.1)
-    ∙ arcs_all n p q (if goes_by_element n p q e.1 then set marks e.0 true else marks) edges
+    ∙ arcs_all n p q (if goes_by_label n p q e.1 then set marks e.0 true else marks) edges
 
--- marks by the arcs of a label are the profile
-pub element_marks : (rows : List Row) (n : ℕ) (p q set : List Bool) (xs : List Arc) (i : ℕ) → length xs ≤ i → xs ≡ arcs_of n (edges_from 0 (map state_of rows)) → set ≡ mark_by_arcs p q (replicate (length rows) false) (take i xs)
-    → set ≡ profile_element (map state_of rows) n p q
-element_marks rows n p q set xs i le e f =
+one_any : (p q marks : List Bool) (s : ℕ) (e : Edge) → mark_by_arcs p q marks (any_arc_of s e) ≡ (if goes_by_any p q e then set marks s true else marks)
+one_any p q marks s (Atom k r) = refl
+one_any p q marks s (Elem m c r) = refl
+one_any p q marks s (AnyElem c r) = refl
+
+any_all : (p q marks : List Bool) (edges : List (ℕ × Edge)) → mark_by_arcs p q marks (any_arcs_of edges) ≡ mark_all (goes_by_any p q) marks edges
+any_all p q marks [] = refl
+any_all p q marks (e ∷ edges) =
+    mark_by_arcs-append p q marks (any_arc_of e.0 e.1) (any_arcs_of edges) ∙ ap (λ l. mark_by_arcs p q l (any_arcs_of edges)) (one_any p q marks e.0 e.1)
+    ∙ any_all p q (if goes_by_any p q e.1 then set marks e.0 true else marks) edges
+
+-- an edge goes by an element where it goes by its label or by any
+goes_either : (n : ℕ) (p q : List Bool) (e : Edge) → goes_by_label n p q e || goes_by_any p q e ≡ goes_by_element n p q e
+goes_either n p q (Atom k r) = refl
+goes_either n p q (Elem m c r) = or_false ((m == n) && (has p c && has q r))
+goes_either n p q (AnyElem c r) = refl
+
+or_swap : (a b c d : Bool) → (a || b) || (c || d) ≡ (a || c) || (b || d)
+or_swap true b c d = refl
+or_swap false true true d = refl
+or_swap false true false d = refl
+or_swap false false c d = refl
+
+any_either : (n : ℕ) (p q : List Bool) (es : List Edge) → list_any (goes_by_label n p q) es || list_any (goes_by_any p q) es ≡ list_any (goes_by_element n p q) es
+any_either n p q [] = refl
+any_either n p q (e ∷ es) =
+    or_swap (goes_by_label n p q e) (list_any (goes_by_label n p q) es) (goes_by_any p q e) (list_any (goes_by_any p q) es)
+    ∙ ap₂ (λ a b. a || b) (goes_either n p q e) (any_either n p q es)
+
+map_either : (n : ℕ) (p q : List Bool) (states : List State) → map (λ (t : State). list_any (goes_by_label n p q) t.edges || list_any (goes_by_any p q) t.edges) states ≡ profile_element states n p q
+map_either n p q [] = refl
+map_either n p q (t ∷ ts) = ap₂ (λ a l. a ∷ l) (any_either n p q t.edges) (map_either n p q ts)
+
+-- marks by the arcs of a label, and then by those of any label, are the profile
+pub element_marks : (rows : List Row) (n : ℕ) (p q clear one set : List Bool) (xs ys : List Arc) → xs ≡ arcs_of n (edges_from 0 (map state_of rows)) → ys ≡ any_arcs_of (edges_from 0 (map state_of rows)) → clear ≡ replicate (length rows) false
+    → one ≡ mark_by_arcs p q clear xs → set ≡ mark_by_arcs p q one ys → set ≡ profile_element (map state_of rows) n p q
+element_marks rows n p q clear one set xs ys e f none g h =
     let states = map state_of rows in
-    f ∙ ap (mark_by_arcs p q (replicate (length rows) false)) (take_whole xs i le) ∙ ap₂ (λ l k. mark_by_arcs p q (replicate k false) l) e (sym (length-map state_of rows)) ∙ arcs_all n p q (replicate (length states) false) (edges_from 0 states) ∙ mark_states (goes_by_element n p q) states [] 0 refl
+    let by_label : one ≡ map (λ (t : State). list_any (goes_by_label n p q) t.edges) states =
+    g ∙ ap₂ (λ l k. mark_by_arcs p q k l) e (none ∙ ap (λ k. replicate k false) (sym (length-map state_of rows))) ∙ arcs_all n p q (replicate (length states) false) (edges_from 0 states) ∙ mark_states (goes_by_label n p q) states in
+    h ∙ ap₂ (λ l k. mark_by_arcs p q k l) f by_label ∙ any_all p q (map (λ (t : State). list_any (goes_by_label n p q) t.edges) states) (edges_from 0 states)
+    ∙ mark_more (goes_by_any p q) (λ t. list_any (goes_by_label n p q) t.edges) states [] 0 refl ∙ map_either n p q states
+
+-- all arcs of a list
+pub arcs_whole : (p q marks set : List Bool) (xs : List Arc) (i : ℕ) → length xs ≤ i → set ≡ mark_by_arcs p q marks (take i xs) → set ≡ mark_by_arcs p q marks xs
+arcs_whole p q marks set xs i le e = e ∙ ap (mark_by_arcs p q marks) (take_whole xs i le)
 
 mark_by_leaps-append : (q marks : List Bool) (xs ys : List Leap) → mark_by_leaps q marks (xs ++ ys) ≡ mark_by_leaps q (mark_by_leaps q marks xs) ys
 mark_by_leaps-append q marks [] ys = refl
@@ -212,6 +280,7 @@ if_leap q marks false a = refl
 one_leap : (k : AtomKind) (q marks : List Bool) (s : ℕ) (e : Edge) → mark_by_leaps q marks (leap_of k s e) ≡ (if goes_by_atom k q e then set marks s true else marks)
 one_leap k q marks s (Atom j r) = if_leap q marks (same_kind j k) (record { source = s; next = r })
 one_leap k q marks s (Elem m c r) = refl
+one_leap k q marks s (AnyElem c r) = refl
 
 leaps_all : (k : AtomKind) (q marks : List Bool) (edges : List (ℕ × Edge)) → mark_by_leaps q marks (leaps_of k edges) ≡ mark_all (goes_by_atom k q) marks edges
 leaps_all k q marks [] = refl
@@ -224,4 +293,4 @@ pub atom_marks : (rows : List Row) (k : AtomKind) (q set : List Bool) (xs : List
     → set ≡ profile_atom (map state_of rows) k q
 atom_marks rows k q set xs i le e f =
     let states = map state_of rows in
-    f ∙ ap (mark_by_leaps q (replicate (length rows) false)) (take_whole xs i le) ∙ ap₂ (λ l n. mark_by_leaps q (replicate n false) l) e (sym (length-map state_of rows)) ∙ leaps_all k q (replicate (length states) false) (edges_from 0 states) ∙ mark_states (goes_by_atom k q) states [] 0 refl
+    f ∙ ap (mark_by_leaps q (replicate (length rows) false)) (take_whole xs i le) ∙ ap₂ (λ l n. mark_by_leaps q (replicate n false) l) e (sym (length-map state_of rows)) ∙ leaps_all k q (replicate (length states) false) (edges_from 0 states) ∙ mark_states (goes_by_atom k q) states

@@ -12,11 +12,11 @@ use Rattle.flux_auto.specs.declared.table.Cell.{Cell}
 use Rattle.flux_auto.specs.declared.table.Row.{Row}
 use Rattle.flux_auto.specs.declared.table.Table.{Table}
 use Rattle.flux_auto.specs.Takes.{EdgesBelow}
-use Rattle.flux_auto.specs.Standing.{In, at, lists, FollowsAny, Ready}
-use Rattle.flux_auto.specs.Built.{Grows, IsSet, IsEven, IsGround, IsOwn, IsClosed, OwnFrom, FreshFrom, Linear, ClosedBelow, Awaits, Filled, Closed}
+use Rattle.flux_auto.specs.Standing.{In, at, lists, FollowsAny, Ready, IsTableLabel, LabelsStand, EdgesLabelled}
+use Rattle.flux_auto.specs.Built.{Grows, IsSet, IsEven, IsGround, IsOwn, IsClosed, OwnFrom, FreshFrom, NoNewLabels, Linear, ClosedBelow, Awaits, Filled, Closed}
 use Rattle.flux_auto.proofs.Lists.{in-cons, starts-in, skips-in, starts-full}
 use Rattle.flux_auto.proofs.Items.{some_is, get-append}
-use Rattle.flux_auto.proofs.Tables.{at-cell, edges-append, any-left, any-right, any-cases, IsOwn-grows, IsClosed-grows, IsFresh-grows}
+use Rattle.flux_auto.proofs.Tables.{at-cell, edges-append, any-left, any-right, any-cases, labelled-append, IsOwn-grows, IsClosed-grows, IsFresh-grows}
 use Rattle.flux_auto.proofs.Growing.{below_or_not, grows_by, grows_same, carried}
 use Rattle.flux_auto.proofs.Reading.{own_from, ground_on}
 
@@ -34,6 +34,7 @@ module _ (defs : Definitions) where
       let null : Member defs nil t = o.ends.0 may in
       record {
         below = subst (EdgesBelow (length cs)) (sym edges) (edges-append (length cs) own.edges.items tail.edges.items o.reads.below k.below);
+        labels = subst (EdgesLabelled defs cs) (sym edges) (labelled-append defs cs own.edges.items tail.edges.items o.reads.labels k.labels);
         sound = λ z h. subst (In defs z) (sym list) (elim (any-cases defs ts own.edges.items tail.edges.items z (subst (λ l. FollowsAny defs ts l z) edges h)) [
           | inl f ↦ starts-in defs t rest z (o.reads.sound z f)
           | inr f ↦ skips-in defs t rest z null (k.sound z f)
@@ -61,6 +62,7 @@ module _ (defs : Definitions) where
       let full : Member defs nil t → ⊥ = λ m. (let x : true ≡ false = sym (o.ends.1 m) ∙ lacks in cc) in
       record {
         below = o.reads.below;
+        labels = o.reads.labels;
         sound = λ z h. subst (In defs z) (sym list) (starts-in defs t rest z (o.reads.sound z h));
         complete = λ z ne h. elim (in-cons defs t rest z (subst (In defs z) list h)) [
           | inl f ↦ o.reads.complete z f
@@ -152,6 +154,7 @@ module _ (defs : Definitions) where
           | inl j ↦ subst (λ k. IsOwn defs b.cells.items k r) (sym j) (subst (IsOwn defs b.cells.items s) (some_is set.row r (sym set.here ∙ ap (slice_get c.rows.items) (sym j) ∙ e)) here)
           | inr le ↦ l.own i r le (sym (set.others i (λ j. omega (arith, j, le, in_a, even))) ∙ e)
         ]);
+        labels = λ n k. l.labels n (subst (λ j. IsTableLabel defs j n) set.cells k);
       }
 
   -- the states from n to i, and those from m on, have their own edges
@@ -159,6 +162,7 @@ module _ (defs : Definitions) where
     pub grows : Grows n a b
     pub even : IsEven b
     pub own : (s : ℕ) (r : Row) → n ≤ s → (s < i) ⊎ (m ≤ s) → slice_get b.rows.items s ≡ Some r → IsOwn defs b.cells.items s r
+    pub labels : NoNewLabels defs a b
 
   pub fills_begins : (n m : ℕ) (a : Table) → IsEven a → m ≡ length a.cells.items → n ≤ m → Fills n m n a a
   fills_begins n m a even e le = record {
@@ -168,6 +172,7 @@ module _ (defs : Definitions) where
       | inl l ↦ absurd (omega (arith, l, lt))
       | inr l ↦ absurd (omega (arith, l, e, even, slice_get_within a.rows.items s r g))
     ];
+    labels = λ k h. h;
   }
 
   pub fills_awaits : (n m i : ℕ) (a b : Table) → FreshFrom (length defs) n a.cells.items → Fills n m i a b → m ≡ length a.cells.items → n ≤ i → 1 ≤ n → i < m → Awaits (length defs) b.cells.items i
@@ -196,6 +201,7 @@ module _ (defs : Definitions) where
             subst (λ k. IsOwn defs k s r) (sym y.cells) (IsOwn-grows defs b.cells.items y.more s r (x.own s r lt before (sym (y.others s l other) ∙ e)))
       ]
     ];
+    labels = λ k h. x.labels k (y.labels k h);
   }
     where
       same_or_not : (s i : ℕ) → (s ≡ i) ⊎ (s ≡ i → ⊥)
@@ -216,6 +222,9 @@ module _ (defs : Definitions) where
 
   pub awaits_ready : (n s : ℕ) (cs : List Cell) (w : Awaits n cs s) (h : Tree) → ty_of w.cell.head ≡ ty_of h → Ready n cs (ty_of h)
   awaits_ready n s cs w h e = subst (Ready n cs) e w.fresh.ready
+
+  pub awaits_labels : (n s : ℕ) (cs : List Cell) (w : Awaits n cs s) (h : Tree) → ty_of w.cell.head ≡ ty_of h → LabelsStand defs cs (ty_of h)
+  awaits_labels n s cs w h e = subst (LabelsStand defs cs) e (λ m l. inr (s, w.cell, w.is, l))
 
   pub awaits_below : (n s : ℕ) (cs : List Cell) → Awaits n cs s → s < length cs
   awaits_below n s cs w = slice_get_within cs s w.cell w.is

@@ -4,7 +4,8 @@ use Rattle.std.proofs.lemmas.Option.{slice_get_within, slice_get_read}
 use Rattle.std.proofs.lemmas.Bool.{eq-eqb}
 use Rattle.std.specs.Cmp.Derive.{both_true as two}
 use Rattle.flux_atom.specs.declared.atom.AtomKind.{AtomKind}
-use Rattle.flux_schema.specs.Ty.{Ty, empty, atom, element, seq, alt, star, named, NamesBelow}
+use Rattle.flux_schema.specs.Ty.{Ty, empty, atom, element, any_element, seq, alt, star, named, NamesBelow}
+use Rattle.flux_schema.specs.Labels.{IsLabelOf}
 use Rattle.flux_schema.specs.Tidy.{same}
 use Rattle.flux_schema.proofs.SameLaws.{same-eq, same_kind-same}
 use Rattle.flux_types.specs.declared.ty.Ty.{Ty as Tree}
@@ -14,8 +15,8 @@ use Rattle.flux_types.proofs.Variants.{of_empty, of_atom, of_named}
 use Rattle.flux_auto.specs.declared.edge.Edge.{Edge}
 use Rattle.flux_auto.specs.declared.table.Cell.{Cell}
 use Rattle.flux_auto.specs.declared.table.Table.{Table}
-use Rattle.flux_auto.specs.Standing.{IsContent, HasContent, Ready}
-use Rattle.flux_auto.specs.Built.{Grows, Put, IsEven, IsFresh, FreshFrom, Registered, PutContent}
+use Rattle.flux_auto.specs.Standing.{IsContent, HasContent, Ready, IsHeadLabel}
+use Rattle.flux_auto.specs.Built.{Grows, Put, IsEven, IsFresh, FreshFrom, LabelsFrom, Registered, PutContent}
 use Rattle.flux_auto.proofs.Items.{some_is, get-append, get-end}
 use Rattle.flux_auto.proofs.Tables.{Ready-grows, IsFresh-grows}
 use Rattle.flux_auto.proofs.Growing.{below_or_not, carried}
@@ -26,6 +27,7 @@ pub same-refl : (t : Ty) → same t t ≡ true
 same-refl empty = refl
 same-refl (atom k) = same_kind-same k
 same-refl (element n t) = two (eq-eqb n n refl) (same-refl t)
+same-refl (any_element t) = same-refl t
 same-refl (seq t u) = two (same-refl t) (same-refl u)
 same-refl (alt t u) = two (same-refl t) (same-refl u)
 same-refl (star t) = same-refl t
@@ -76,6 +78,16 @@ last_only cs c d s le e =
     let at : s ≡ length cs = omega (arith, le, lt, length-append cs (c ∷ [])) in
     some_is c d (sym (get-end cs c []) ∙ ap (slice_get (cs ++ c ∷ [])) (sym at) ∙ e)
 
+labels_put : (a b : Table) (t : Ty) (tail : ℕ) (ends : Bool) (edges : List Edge) (s : ℕ) → Put a b t tail ends edges s → LabelsFrom a b t
+labels_put a b t tail ends edges s p n (i, c, is, l) =
+    let get : slice_get (a.cells.items ++ p.cell ∷ []) i ≡ Some c = ap (λ k. slice_get k i) (sym p.cells) ∙ is in
+    elim (below_or_not i (length a.cells.items)) [
+      | inl lt ↦ inl (i, c, sym (get-append a.cells.items (p.cell ∷ []) i lt) ∙ get, l)
+      | inr le ↦
+          let same : p.cell ≡ c = last_only a.cells.items p.cell c i le get in
+          inr (subst (IsLabelOf n) (ap (λ (d : Cell). ty_of d.head) (sym same) ∙ p.head_is) l)
+    ]
+
 pub content_put : (a b : Table) (t : Ty) (s : ℕ) → IsEven a → 1 ≤ length a.cells.items → Put a b t 0 false [] s → PutContent a b t s
 content_put a b t s even begun p = record {
   even = put-even a b t 0 false [] s even p;
@@ -84,6 +96,7 @@ content_put a b t s even begun p = record {
       let same : p.cell ≡ c = last_only a.cells.items p.cell c i le (ap (λ l. slice_get l i) (sym p.cells) ∙ e) in
       subst (IsFresh n b.cells.items) same
       (record { tail = p.tail_is; ready = subst (λ l. Ready n l (ty_of p.cell.head)) (sym p.cells) (Ready-grows n a.cells.items (p.cell ∷ []) (ty_of p.cell.head) (subst (Ready n a.cells.items) (sym p.head_is) ready)) });
+  labels = labels_put a b t 0 false [] s p;
 }
 
 none_new : (n : ℕ) (cs : List Cell) → FreshFrom n (length cs) cs
@@ -101,7 +114,7 @@ fresh_on n m i a b f g h s c le e =
     ]
 
 pub registered_none : (a : Table) (t : Ty) → IsEven a → ((n : ℕ) → NamesBelow n t → Ready n a.cells.items t) → Registered a a t
-registered_none a t even f = record { even = even; ready = f; fresh = λ n b. none_new n a.cells.items }
+registered_none a t even f = record { even = even; ready = f; fresh = λ n b. none_new n a.cells.items; labels = λ n h. inl h }
 
 pub registered_leaf : (a : Table) (x : Tree) → IsEven a → (x ≡ Empty) ⊎ (((k : AtomKind) × (x ≡ Atom k)) ⊎ ((n : ℕ) × (x ≡ Named n))) → Registered a a (ty_of x)
 registered_leaf a x even (inl e) = subst (Registered a a) (sym (of_empty x e)) (registered_none a empty even (λ n b. tt))
@@ -112,13 +125,26 @@ pub registered_as : (a b : Table) (t u : Ty) → u ≡ t → Registered a b t �
 registered_as a b t u e r = subst (Registered a b) (sym e) r
 
 pub registered_star : (a b : Table) (t : Ty) → Registered a b t → Registered a b (star t)
-registered_star a b t r = record { even = r.even; ready = r.ready; fresh = r.fresh }
+registered_star a b t r = record { even = r.even; ready = r.ready; fresh = r.fresh; labels = r.labels }
+
+-- those of a type, and of its content once more
+labels_twice : (a b c : Table) (t : Ty) → LabelsFrom a b t → LabelsFrom b c t → LabelsFrom a c t
+labels_twice a b c t f g n h = elim (g n h) [ inl k ↦ f n k | inr l ↦ inr l ]
 
 pub registered_element : (a b c : Table) (m : ℕ) (t : Ty) (s k : ℕ) → Registered a b t → Grows k b c → PutContent b c t s → Registered a c (element m t)
 registered_element a b c m t s k r g p = record {
   even = p.even;
   ready = λ n below. (s, p.content);
   fresh = λ n below. fresh_on n k (length a.cells.items) b c (r.fresh n below) g (p.fresh n (r.ready n below));
+  labels = λ n h. elim (labels_twice a b c t r.labels p.labels n h) [ inl o ↦ inl o | inr l ↦ inr (inr l) ];
+}
+
+pub registered_any : (a b c : Table) (t : Ty) (s k : ℕ) → Registered a b t → Grows k b c → PutContent b c t s → Registered a c (any_element t)
+registered_any a b c t s k r g p = record {
+  even = p.even;
+  ready = λ n below. (s, p.content);
+  fresh = λ n below. fresh_on n k (length a.cells.items) b c (r.fresh n below) g (p.fresh n (r.ready n below));
+  labels = labels_twice a b c t r.labels p.labels;
 }
 
 -- one type and another
@@ -129,8 +155,11 @@ module _ (a b c : Table) (k : ℕ) (t u : Ty) (x : Registered a b t) (g : Grows 
   both_fresh : (n : ℕ) → NamesBelow n t → NamesBelow n u → FreshFrom n (length a.cells.items) c.cells.items
   both_fresh n p q = fresh_on n k (length a.cells.items) b c (x.fresh n p) g (y.fresh n q)
 
+  both_labels : (n : ℕ) → IsHeadLabel c.cells.items n → IsHeadLabel a.cells.items n ⊎ (IsLabelOf n t ⊎ IsLabelOf n u)
+  both_labels n h = elim (y.labels n h) [ inr l ↦ inr (inr l) | inl b ↦ elim (x.labels n b) [ inr l ↦ inr (inl l) | inl o ↦ inl o ] ]
+
   pub registered_seq : Registered a c (seq t u)
-  registered_seq = record { even = y.even; ready = λ n b. both_ready n b.0 b.1; fresh = λ n b. both_fresh n b.0 b.1 }
+  registered_seq = record { even = y.even; ready = λ n b. both_ready n b.0 b.1; fresh = λ n b. both_fresh n b.0 b.1; labels = both_labels }
 
   pub registered_alt : Registered a c (alt t u)
-  registered_alt = record { even = y.even; ready = λ n b. both_ready n b.0 b.1; fresh = λ n b. both_fresh n b.0 b.1 }
+  registered_alt = record { even = y.even; ready = λ n b. both_ready n b.0 b.1; fresh = λ n b. both_fresh n b.0 b.1; labels = both_labels }

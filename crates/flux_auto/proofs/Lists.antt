@@ -6,9 +6,9 @@ use Rattle.flux_atom.specs.Atom.{kind_of}
 use Rattle.std.proofs.lemmas.Bool.{or_right, and_parts}
 use Rattle.flux_trees.specs.Hedge.{Plain, nil, elem, leaf, join}
 use Rattle.flux_trees.proofs.HedgeLaws.{join-nil, join_assoc}
-use Rattle.flux_schema.specs.Ty.{Ty, empty, atom, element, seq, alt, star, named}
+use Rattle.flux_schema.specs.Ty.{Ty, empty, atom, element, any_element, seq, alt, star, named}
 use Rattle.flux_schema.specs.Definitions.{Definitions, body_of}
-use Rattle.flux_schema.specs.Member.{Member, in_empty, in_atom, in_element, in_seq, in_left, in_right, in_done, in_more, in_name}
+use Rattle.flux_schema.specs.Member.{Member, in_empty, in_atom, in_element, in_any, in_seq, in_left, in_right, in_done, in_more, in_name}
 use Rattle.flux_auto.specs.Standing.{In, Starts, empties}
 use Rattle.flux_auto.proofs.Items.{some_is}
 
@@ -34,6 +34,9 @@ module _ (defs : Definitions) where
   of_element : {v : Plain} {n : ℕ} {t : Ty} → Member defs v (element n t) → (c : Plain) × (v ≡ elem tt n c nil) × Member defs c t
   of_element (in_element n {v} m) = (v, refl, m)
 
+  of_any : {v : Plain} {t : Ty} → Member defs v (any_element t) → (n : ℕ) × (c : Plain) × (v ≡ elem tt n c nil) × Member defs c t
+  of_any (in_any n {v} m) = (n, v, refl, m)
+
   of_seq : {z : Plain} {t u : Ty} → Member defs z (seq t u) → (v : Plain) × (w : Plain) × (join v w ≡ z) × Member defs v t × Member defs w u
   of_seq (in_seq v w j m n) = (v, w, j, m, n)
 
@@ -49,6 +52,7 @@ module _ (defs : Definitions) where
   of_star _ _ in_empty t e ne = cc
   of_star _ _ (in_atom x is) t e ne = cc
   of_star _ _ (in_element n m) t e ne = cc
+  of_star _ _ (in_any n m) t e ne = cc
   of_star _ _ (in_seq v w j m n) t e ne = cc
   of_star _ _ (in_left u m) t e ne = cc
   of_star _ _ (in_right u m) t e ne = cc
@@ -74,6 +78,7 @@ module _ (defs : Definitions) where
   empties-sound q s empty e = in_empty
   empties-sound q s (atom a) e = cc
   empties-sound q s (element n t) e = cc
+  empties-sound q s (any_element t) e = cc
   empties-sound q s (seq t u) e = let p = and_parts _ _ e in in_seq nil nil refl (empties-sound q s t p.0) (empties-sound q s u p.1)
   empties-sound q s (alt t u) e = elim (either _ _ e) [ inl h ↦ in_left u (empties-sound q s t h) | inr h ↦ in_right t (empties-sound q s u h) ]
   empties-sound q s (star t) e = in_done t
@@ -84,6 +89,7 @@ module _ (defs : Definitions) where
   empties-complete q f _ _ in_empty e = refl
   empties-complete q f _ _ (in_atom x is) e = cc
   empties-complete q f _ _ (in_element n m) e = cc
+  empties-complete q f _ _ (in_any n m) e = cc
   empties-complete q f _ _ (in_seq v w j m n) e =
       let p = nil_parts v w (j ∙ e) in
       ap₂ (λ a b. a && b) (empties-complete q f _ _ m p.0) (empties-complete q f _ _ n p.1)
@@ -109,6 +115,12 @@ module _ (defs : Definitions) where
 
   pub element-starts : (n : ℕ) (t : Ty) (k : List Ty) (c w : Plain) → Member defs c t → In defs w k → Starts defs (element n t) k (elem tt n c w)
   element-starts n t k c w m i = (elem tt n c nil, w, refl, (λ e. cc), in_element n m, i)
+
+  pub starts-any : (t : Ty) (k : List Ty) (z : Plain) → Starts defs (any_element t) k z → (n : ℕ) × (c : Plain) × (w : Plain) × (z ≡ elem tt n c w) × Member defs c t × In defs w k
+  starts-any t k z (v, w, j, ne, m, i) = let p = of_any m in (p.0, p.1, w, sym j ∙ ap (λ y. join y w) p.2, p.3, i)
+
+  pub any-starts : (n : ℕ) (t : Ty) (k : List Ty) (c w : Plain) → Member defs c t → In defs w k → Starts defs (any_element t) k (elem tt n c w)
+  any-starts n t k c w m i = (elem tt n c nil, w, refl, (λ e. cc), in_any n m, i)
 
   pub starts-seq : (t u : Ty) (k : List Ty) (z : Plain) → Starts defs (seq t u) k z → Starts defs t (u ∷ k) z ⊎ (Member defs nil t × Starts defs u k z)
   starts-seq t u k z (v, w, j, ne, m, i) =

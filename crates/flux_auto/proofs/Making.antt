@@ -4,13 +4,15 @@ use Rattle.std.proofs.lemmas.Option.{slice_get_within}
 use Rattle.flux_trees.specs.Hedge.{nil}
 use Rattle.flux_schema.specs.Ty.{Ty, empty, NamesBelow}
 use Rattle.flux_schema.specs.Definitions.{Definitions, body_of}
+use Rattle.flux_schema.specs.Labels.{IsLabelOf}
 use Rattle.flux_schema.proofs.Ranks.{body_within}
+use Rattle.flux_types.specs.Read.{ty_of}
 use Rattle.flux_auto.specs.declared.table.Cell.{Cell}
 use Rattle.flux_auto.specs.declared.table.Row.{Row}
 use Rattle.flux_auto.specs.declared.table.Table.{Table}
 use Rattle.flux_auto.specs.Takes.{EdgesBelow}
-use Rattle.flux_auto.specs.Standing.{In, at, lists, FollowsAny, TellsEmpty, Ready, IsContent}
-use Rattle.flux_auto.specs.Built.{Grows, Put, IsEven, IsGround, IsClosed, FreshFrom, Registered, PutContent, ClosedBelow, IsComplete, IsBegun, Extended}
+use Rattle.flux_auto.specs.Standing.{In, at, lists, FollowsAny, TellsEmpty, Ready, IsContent, IsHeadLabel, IsTableLabel, EdgesLabelled}
+use Rattle.flux_auto.specs.Built.{Grows, Put, IsEven, IsGround, IsClosed, FreshFrom, Registered, PutContent, ClosedBelow, IsComplete, IsBegun, NoNewLabels, LabelsOfBodies, LabelsMore, Extended}
 use Rattle.flux_auto.proofs.Lists.{end-in, in-end}
 use Rattle.flux_auto.proofs.Items.{some_is}
 use Rattle.flux_auto.proofs.Tables.{at-grows, IsContent-grows}
@@ -27,6 +29,7 @@ nil_of xs ys x e f = f ∙ ap (λ l. l ++ x ∷ []) e
 end_closed : (defs : Definitions) (cs : List Cell) (r : Row) → at (lists cs) 0 ≡ empty ∷ [] → r.ends ≡ true → r.edges.items ≡ [] → IsClosed defs cs 0 r
 end_closed defs cs r list ends edges = record {
   below = subst (λ l. EdgesBelow (length cs) l) (sym edges) tt;
+  labels = subst (EdgesLabelled defs cs) (sym edges) tt;
   sound = λ z h. absurd (subst (λ l. FollowsAny defs (lists cs) l z) edges h);
   complete = λ z ne h. absurd (ne (end-in defs z (subst (In defs z) list h)));
   ends = (λ e. subst (In defs nil) (sym list) (in-end defs), λ h. ends);
@@ -41,6 +44,11 @@ begun_with a b s e f p =
       even = ap length rows ∙ ap length (sym cells);
       one = ap length cells;
       end = list;
+      bare = λ n h.
+          let get : slice_get (p.cell ∷ []) h.0 ≡ Some h.1 = ap (λ l. slice_get l h.0) (sym cells) ∙ h.2 in
+          let first : h.0 ≡ 0 = omega (arith, slice_get_within (p.cell ∷ []) h.0 h.1 get) in
+          let same : p.cell ≡ h.1 = some_is p.cell h.1 (ap (slice_get (p.cell ∷ [])) (sym first) ∙ get) in
+          subst (IsLabelOf n) (ap (λ (d : Cell). ty_of d.head) (sym same) ∙ p.head_is) h.3;
       closed = λ defs i r lt g.
           let at_first : i ≡ 0 = omega (arith, lt) in
           let same : p.row ≡ r = some_is p.row r (sym (ap (λ l. slice_get l 0) rows) ∙ ap (slice_get b.rows.items) (sym at_first) ∙ g) in
@@ -57,6 +65,7 @@ module _ (defs : Definitions) where
     pub even : IsEven b
     pub ready : (x : ℕ) (t : Ty) → x < n → body_of defs x ≡ Some t → Ready (length defs) b.cells.items t
     pub fresh : FreshFrom (length defs) 1 b.cells.items
+    pub labels : LabelsOfBodies defs b
 
   pub begins_none : (a : Table) → IsBegun a → Begins 0 a a
   begins_none a g = record {
@@ -64,6 +73,7 @@ module _ (defs : Definitions) where
     even = g.even;
     ready = λ x t lt e. absurd (omega (arith, lt));
     fresh = λ s c le e. absurd (omega (arith, le, g.one, slice_get_within a.cells.items s c e));
+    labels = λ n h. elim h [ inl b ↦ b | inr k ↦ absurd (g.bare n k) ];
   }
 
   pub begins_next : (n : ℕ) (a b c : Table) (t : Ty) → IsBegun a → Begins n a b → body_of defs n ≡ Some t → NamesBelow (length defs) t → Grows (length b.rows.items) b c → Registered b c t → Begins (n + 1) a c
@@ -78,6 +88,7 @@ module _ (defs : Definitions) where
           subst (Ready (length defs) c.cells.items) same (r.ready (length defs) known)
     ];
     fresh = fresh_on (length defs) (length b.rows.items) 1 b c x.fresh g (r.fresh (length defs) known);
+    labels = λ m h. elim h [ inl k ↦ k | inr k ↦ elim (r.labels m k) [ inl o ↦ x.labels m (inr o) | inr l ↦ (n, t, body, l) ] ];
   }
 
   pub begins_ground : (names : List Bool) (n : ℕ) (a b : Table) → TellsEmpty defs names → IsBegun a → Begins n a b → length defs ≤ n → IsGround defs names b
@@ -104,6 +115,13 @@ module _ (defs : Definitions) where
 
     pub extended_fresh : FreshFrom (length defs) (length a.cells.items) c.cells.items
     extended_fresh = fresh_on (length defs) (length b.rows.items) (length a.cells.items) b c (r.fresh (length defs) known) h (p.fresh (length defs) (r.ready (length defs) known))
+
+    -- no labels but those of the type are new
+    pub extended_labels : (d : Table) → NoNewLabels defs c d → LabelsMore defs a d t
+    extended_labels d f n h = elim (f n h) [
+      | inl k ↦ inl (inl k)
+      | inr k ↦ elim (p.labels n k) [ inr l ↦ inr l | inl o ↦ elim (r.labels n o) [ inr l ↦ inr l | inl q ↦ inl (inr q) ] ]
+    ]
 
     pub extended_closed : ClosedBelow defs (length a.cells.items) c
     extended_closed = closed_carried defs (length a.cells.items) a c (omega arith) whole.closed (subst (λ n. Grows n a c) whole.ground.even both_grow)

@@ -13,7 +13,7 @@ use Rattle.flux_schema.specs.Definitions.{Definitions}
 use Rattle.flux_schema.specs.Member.{Member}
 use Rattle.flux_schema.proofs.SameLaws.{same_kind-eq, same_kind-same}
 use Rattle.flux_auto.specs.declared.edge.Edge.{Edge}
-use Rattle.flux_auto.specs.declared.edge.Edge.TheVariants.{Atom, Elem}
+use Rattle.flux_auto.specs.declared.edge.Edge.TheVariants.{Atom, Elem, AnyElem}
 use Rattle.flux_auto.specs.declared.table.Row.{Row}
 use Rattle.flux_auto.specs.declared.table.Table.{Table}
 use Rattle.flux_auto.specs.Takes.{State, has, goes_by_element, goes_by_atom, profile, takes, EdgeBelow, EdgesBelow}
@@ -60,6 +60,10 @@ module _ (defs : Definitions) (ts : List (List Ty)) (n : ℕ) where
     λ e. let x = and_parts _ _ e in let y = and_parts _ _ x.1 in (eqb-true l a x.0, (t i w.0).0 y.0, (u j w.1).0 y.1),
     λ h. two (eq-eqb l a h.0) (two ((t i w.0).1 h.1) ((u j w.1).1 h.2)),
   )
+  by_element a p q c r t u (AnyElem i j) w = (
+    λ e. let y = and_parts _ _ e in ((t i w.0).0 y.0, (u j w.1).0 y.1),
+    λ h. two ((t i w.0).1 h.0) ((u j w.1).1 h.1),
+  )
 
   by_atom : (x : Value) (q : List Bool) (r : Plain) → Tells q r → (e : Edge) → EdgeBelow n e → (goes_by_atom (kind_of x) q e ≡ true) ↔ Follows defs ts e (leaf tt x r)
   by_atom x q r u (Atom k i) w = (
@@ -67,6 +71,7 @@ module _ (defs : Definitions) (ts : List (List Ty)) (n : ℕ) where
     λ h. two (subst (λ y. same_kind k y ≡ true) h.0 (same_kind-same k)) ((u i w).1 h.1),
   )
   by_atom x q r u (Elem l i j) w = (λ e. cc, λ h. absurd h)
+  by_atom x q r u (AnyElem i j) w = (λ e. cc, λ h. absurd h)
 
   -- one of the edges goes by the forest
   any_goes : (test : Edge → Bool) (z : Plain) → ((e : Edge) → EdgeBelow n e → (test e ≡ true) ↔ Follows defs ts e z) → (es : List Edge) → EdgesBelow n es → (list_any test es ≡ true) ↔ FollowsAny defs ts es z

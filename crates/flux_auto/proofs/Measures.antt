@@ -1,7 +1,7 @@
 -- How much work a type is, with the names that stand in it outside elements.
 use Rattle.std.proofs.Common.{◌≡◌, ℕ, zero, suc, ◌+◌, ◌*◌, ◌<◌, ◌≤◌, ◌⊎◌, [], ◌∷◌, Some, max, refl, inl, inr, arith}
 use Rattle.std.proofs.Math.Nat.{mul-le-mul_right}
-use Rattle.flux_schema.specs.Ty.{Ty, empty, atom, element, seq, alt, star, named, size}
+use Rattle.flux_schema.specs.Ty.{Ty, empty, atom, element, any_element, seq, alt, star, named, size}
 use Rattle.flux_schema.specs.Definitions.{Definitions, body_of, StandsIn}
 use Rattle.flux_schema.proofs.Ranks.{rank_of, rank-falls}
 use Rattle.flux_auto.specs.Pending.{effort, IsEffort}
@@ -45,6 +45,10 @@ effort-size : (f : ℕ → ℕ) (m : ℕ) (t : Ty) → 3 ≤ m → ((y : ℕ) �
 effort-size f m empty le h = omega (arith, le)
 effort-size f m (atom k) le h = omega (arith, le)
 effort-size f m (element n t) le h = omega (arith, le, mul-le-mul_right m (one_more (size t)))
+  where
+    one_more : (n : ℕ) → 1 ≤ n + 1
+    one_more n = omega arith
+effort-size f m (any_element t) le h = omega (arith, le, mul-le-mul_right m (one_more (size t)))
   where
     one_more : (n : ℕ) → 1 ≤ n + 1
     one_more n = omega arith

@@ -1,19 +1,19 @@
 -- What states stand for stays as states are put at the end.
-use Rattle.std.proofs.Common.{◌≡◌, ℕ, ◌+◌, ◌<◌, ◌≤◌, ◌⊎◌, List, [], ◌∷◌, ◌++◌, length, Some, slice_get, refl, sym, ap, subst, ◌∙◌, inl, inr, arith, append_assoc, length-append}
+use Rattle.std.proofs.Common.{◌≡◌, ℕ, zero, suc, ◌+◌, ◌<◌, ◌≤◌, ◌⊎◌, List, [], ◌∷◌, ◌++◌, length, Some, slice_get, refl, sym, ap, subst, ◌∙◌, inl, inr, arith, append_assoc, length-append}
 use Rattle.std.proofs.lemmas.List.{append-nil}
 use Rattle.std.proofs.lemmas.Option.{slice_get_within}
 use Rattle.flux_trees.specs.Hedge.{Plain, nil, elem, leaf}
-use Rattle.flux_schema.specs.Ty.{Ty, empty, atom, element, seq, alt, star, named}
+use Rattle.flux_schema.specs.Ty.{Ty, empty, atom, element, any_element, seq, alt, star, named}
 use Rattle.flux_schema.specs.Definitions.{Definitions}
 use Rattle.flux_types.specs.Read.{ty_of}
 use Rattle.flux_auto.specs.declared.edge.Edge.{Edge}
-use Rattle.flux_auto.specs.declared.edge.Edge.TheVariants.{Atom, Elem}
+use Rattle.flux_auto.specs.declared.edge.Edge.TheVariants.{Atom, Elem, AnyElem}
 use Rattle.flux_auto.specs.declared.table.Cell.{Cell}
 use Rattle.flux_auto.specs.declared.table.Row.{Row}
 use Rattle.flux_auto.specs.Takes.{EdgeBelow, EdgesBelow}
-use Rattle.flux_auto.specs.Standing.{In, list_of, at, lists_after, lists, Follows, FollowsAny, Starts, IsContent, Ready, Reads}
+use Rattle.flux_auto.specs.Standing.{In, list_of, at, lists_after, lists, Follows, FollowsAny, Starts, IsContent, Ready, IsHeadLabel, IsTableLabel, LabelsStand, EdgeLabelled, EdgesLabelled, Reads}
 use Rattle.flux_auto.specs.Built.{IsOwn, IsClosed, IsFresh}
-use Rattle.flux_auto.proofs.Items.{get-append, get-end, split_at}
+use Rattle.flux_auto.proofs.Items.{some_is, get-append, get-end, split_at}
 
 -- ---- the lists
 
@@ -62,6 +62,7 @@ at-cell cs s c e h =
 edge-more : (m n : ℕ) (e : Edge) → m ≤ n → EdgeBelow m e → EdgeBelow n e
 edge-more m n (Atom k r) l h = omega (arith, l, h)
 edge-more m n (Elem j c r) l h = (omega (arith, l, h.0), omega (arith, l, h.1))
+edge-more m n (AnyElem c r) l h = (omega (arith, l, h.0), omega (arith, l, h.1))
 
 pub edges-more : (m n : ℕ) (es : List Edge) → m ≤ n → EdgesBelow m es → EdgesBelow n es
 edges-more m n [] l h = tt
@@ -71,6 +72,38 @@ pub edges-append : (n : ℕ) (es fs : List Edge) → EdgesBelow n es → EdgesBe
 edges-append n [] fs h k = k
 edges-append n (e ∷ es) fs h k = (h.0, edges-append n es fs h.1 k)
 
+-- ---- labels
+
+pub head_label-grows : (cs ds : List Cell) (n : ℕ) → IsHeadLabel cs n → IsHeadLabel (cs ++ ds) n
+head_label-grows cs ds n (s, c, is, l) = (s, c, get-append cs ds s (slice_get_within cs s c is) ∙ is, l)
+
+module _ (defs : Definitions) where
+  pub table_label-grows : (cs ds : List Cell) (n : ℕ) → IsTableLabel defs cs n → IsTableLabel defs (cs ++ ds) n
+  table_label-grows cs ds n (inl h) = inl h
+  table_label-grows cs ds n (inr h) = inr (head_label-grows cs ds n h)
+
+  pub labels-stand-grow : (cs ds : List Cell) (t : Ty) → LabelsStand defs cs t → LabelsStand defs (cs ++ ds) t
+  labels-stand-grow cs ds t f n h = table_label-grows cs ds n (f n h)
+
+  edge_labelled-grows : (cs ds : List Cell) (e : Edge) → EdgeLabelled defs cs e → EdgeLabelled defs (cs ++ ds) e
+  edge_labelled-grows cs ds (Atom k r) h = tt
+  edge_labelled-grows cs ds (Elem n c r) h = table_label-grows cs ds n h
+  edge_labelled-grows cs ds (AnyElem c r) h = tt
+
+  pub labelled-grows : (cs ds : List Cell) (es : List Edge) → EdgesLabelled defs cs es → EdgesLabelled defs (cs ++ ds) es
+  labelled-grows cs ds [] h = tt
+  labelled-grows cs ds (e ∷ es) h = (edge_labelled-grows cs ds e h.0, labelled-grows cs ds es h.1)
+
+  pub labelled-append : (cs : List Cell) (es fs : List Edge) → EdgesLabelled defs cs es → EdgesLabelled defs cs fs → EdgesLabelled defs cs (es ++ fs)
+  labelled-append cs [] fs h k = k
+  labelled-append cs (e ∷ es) fs h k = (h.0, labelled-append cs es fs h.1 k)
+
+  -- the label of an edge that is there
+  pub labelled-at : (cs : List Cell) (es : List Edge) (i n c r : ℕ) → EdgesLabelled defs cs es → slice_get es i ≡ Some (Elem n c r) → IsTableLabel defs cs n
+  labelled-at cs [] i n c r h e = cc
+  labelled-at cs (f ∷ es) zero n c r h e = (let same : f ≡ Elem n c r = some_is f (Elem n c r) e in subst (EdgeLabelled defs cs) same h.0)
+  labelled-at cs (f ∷ es) (suc i) n c r h e = labelled-at cs es i n c r h.1 e
+
 module _ (defs : Definitions) where
   follows_as : (n : ℕ) (ts us : List (List Ty)) → ((i : ℕ) → i < n → at ts i ≡ at us i) → (e : Edge) → EdgeBelow n e → (z : Plain) → Follows defs ts e z → Follows defs us e z
   follows_as n ts us f (Atom k r) b nil h = h
@@ -79,6 +112,9 @@ module _ (defs : Definitions) where
   follows_as n ts us f (Elem m c r) b nil h = h
   follows_as n ts us f (Elem m c r) b (elem _ a v w) h = (h.0, subst (In defs v) (f c b.0) h.1, subst (In defs w) (f r b.1) h.2)
   follows_as n ts us f (Elem m c r) b (leaf _ x w) h = h
+  follows_as n ts us f (AnyElem c r) b nil h = h
+  follows_as n ts us f (AnyElem c r) b (elem _ a v w) h = (subst (In defs v) (f c b.0) h.0, subst (In defs w) (f r b.1) h.1)
+  follows_as n ts us f (AnyElem c r) b (leaf _ x w) h = h
 
   pub any_as : (n : ℕ) (ts us : List (List Ty)) → ((i : ℕ) → i < n → at ts i ≡ at us i) → (es : List Edge) → EdgesBelow n es → (z : Plain) → FollowsAny defs ts es z → FollowsAny defs us es z
   any_as n ts us f [] b z h = h
@@ -111,6 +147,7 @@ module _ (defs : Definitions) where
   Reads-grows cs ds t tail es r = record {
     tail_below = omega (arith, r.tail_below, length-append cs ds);
     below = edges-more (length cs) (length (cs ++ ds)) es (omega (arith, length-append cs ds)) r.below;
+    labels = labelled-grows defs cs ds es r.labels;
     sound = λ z h. subst (λ k. Starts defs t k z) (sym (at-grows cs ds tail r.tail_below)) (r.sound z (any-shrinks cs ds es r.below z h));
     complete = λ z h. any-grows cs ds es r.below z (r.complete z (subst (λ k. Starts defs t k z) (at-grows cs ds tail r.tail_below) h));
   }
@@ -127,6 +164,7 @@ module _ (defs : Definitions) where
   pub IsClosed-grows : (cs ds : List Cell) (s : ℕ) (r : Row) → s < length cs → IsClosed defs cs s r → IsClosed defs (cs ++ ds) s r
   IsClosed-grows cs ds s r lt k = record {
     below = edges-more (length cs) (length (cs ++ ds)) r.edges.items (omega (arith, length-append cs ds)) k.below;
+    labels = labelled-grows defs cs ds r.edges.items k.labels;
     sound = λ z h. subst (In defs z) (sym (at-grows cs ds s lt)) (k.sound z (any-shrinks cs ds r.edges.items k.below z h));
     complete = λ z ne h. any-grows cs ds r.edges.items k.below z (k.complete z ne (subst (In defs z) (at-grows cs ds s lt) h));
     ends = (λ e. subst (In defs nil) (sym (at-grows cs ds s lt)) (k.ends.0 e), λ h. k.ends.1 (subst (In defs nil) (at-grows cs ds s lt) h));
@@ -145,6 +183,7 @@ pub Ready-grows : (n : ℕ) (cs ds : List Cell) (t : Ty) → Ready n cs t → Re
 Ready-grows n cs ds empty h = tt
 Ready-grows n cs ds (atom k) h = tt
 Ready-grows n cs ds (element m t) h = (h.0, IsContent-grows cs ds h.0 t h.1)
+Ready-grows n cs ds (any_element t) h = (h.0, IsContent-grows cs ds h.0 t h.1)
 Ready-grows n cs ds (seq t u) h = (Ready-grows n cs ds t h.0, Ready-grows n cs ds u h.1)
 Ready-grows n cs ds (alt t u) h = (Ready-grows n cs ds t h.0, Ready-grows n cs ds u h.1)
 Ready-grows n cs ds (star t) h = Ready-grows n cs ds t h

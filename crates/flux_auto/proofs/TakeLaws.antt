@@ -9,7 +9,7 @@ use Rattle.flux_trees.specs.Hedge.{Plain}
 use Rattle.flux_schema.specs.Tidy.{same_kind}
 use Rattle.flux_schema.proofs.SameLaws.{same_kind-eq, same_kind-same}
 use Rattle.flux_auto.specs.declared.edge.Edge.{Edge}
-use Rattle.flux_auto.specs.declared.edge.Edge.TheVariants.{Atom, Elem}
+use Rattle.flux_auto.specs.declared.edge.Edge.TheVariants.{Atom, Elem, AnyElem}
 use Rattle.flux_auto.specs.Takes.{State, has, goes_by_element, goes_by_atom, profile}
 use Rattle.flux_auto.specs.TakesLaw.{SomeEdge, GoesByElement, GoesByAtom, TakesByEdges}
 
@@ -38,6 +38,7 @@ by_element states n c r (Elem m i q) = (
   λ e. let x = and_parts _ _ e in let y = and_parts _ _ x.1 in (eqb-true m n x.0, y.0, y.1),
   λ h. two (eq-eqb m n h.0) (two h.1 h.2),
 )
+by_element states n c r (AnyElem i q) = (λ e. let y = and_parts _ _ e in (y.0, y.1), λ h. two h.0 h.1)
 
 by_atom : (states : List State) (k : AtomKind) (r : Plain) (e : Edge) → (goes_by_atom k (profile states r) e ≡ true) ↔ GoesByAtom states k r e
 by_atom states k r (Atom j q) = (
@@ -45,6 +46,7 @@ by_atom states k r (Atom j q) = (
   λ h. two (ap (same_kind j) (sym h.0) ∙ same_kind-same j) h.1,
 )
 by_atom states k r (Elem m i q) = (λ e. cc, λ h. absurd h)
+by_atom states k r (AnyElem i q) = (λ e. cc, λ h. absurd h)
 
 pub takes_by_edges : (states : List State) → TakesByEdges states
 takes_by_edges states = record {

@@ -1,5 +1,5 @@
 -- What the tasks of reading a type come to.
-use Rattle.std.proofs.Common.{◌≡◌, ℕ, ◌+◌, ◌-◌, ◌<◌, ◌≤◌, List, [], ◌∷◌, ◌++◌, length, take, drop, Bool, true, false, cond, Some, Bor, refl, sym, ap, subst, ◌∙◌, arith, append_assoc, length-append, length-drop}
+use Rattle.std.proofs.Common.{◌≡◌, ℕ, ◌+◌, ◌-◌, ◌<◌, ◌≤◌, List, [], ◌∷◌, ◌++◌, length, take, drop, Bool, true, false, cond, Some, Bor, refl, sym, ap, subst, ◌∙◌, inl, arith, append_assoc, length-append, length-drop}
 use Rattle.std.proofs.lemmas.List.{append-nil}
 use Rattle.std.proofs.Math.Seq.{take-append_seam, drop-append_seam, take-length}
 use Rattle.flux_schema.specs.Ty.{Ty, seq, alt, star, named}
@@ -13,20 +13,21 @@ use Rattle.flux_auto.specs.declared.linear.Task.{Task}
 use Rattle.flux_auto.specs.declared.linear.Task.TheVariants.{Read, First, Row}
 use Rattle.flux_auto.specs.declared.linear.Work.{Work}
 use Rattle.flux_auto.specs.Takes.{has}
-use Rattle.flux_auto.specs.Standing.{Ready, empties}
+use Rattle.flux_auto.specs.Standing.{Ready, LabelsStand, empties}
 use Rattle.flux_auto.specs.Built.{Grows, Put, IsEven, IsSet, IsGround, Linear}
 use Rattle.flux_auto.specs.Pending.{ComesType, ComesFirst, ComesRow, Comes, AllCome, effort, task_effort, all_effort, IsEffort, HasRead, Opens, PutsSecond}
 use Rattle.flux_auto.proofs.Growing.{grows_by, grows_on, grows_same, grows_set, grows-length}
 use Rattle.flux_auto.proofs.Contents.{put-even}
-use Rattle.flux_auto.proofs.Reading.{ground_on, ready_on, null_iff, put-grows, put-below, linear_alt, linear_seq, linear_star, linear_name}
+use Rattle.flux_auto.proofs.Reading.{ground_on, ready_on, labels_on, null_iff, put-grows, put-below, linear_alt, linear_seq, linear_star, linear_name}
 
 -- ---- aims
 
 module _ (defs : Definitions) where
   comes_weaker : (n m : ℕ) (k : Task) (P Q : Table → List Edge → Type 0) → m ≤ n → ((b : Table) (es : List Edge) → P b es → Q b es) → (a : Table) (es : List Edge) → Comes defs n k P a es → Comes defs m k Q a es
-  comes_weaker n m (Read t k) P Q le f a es c = record { ready = c.ready; there = c.there; meets = λ b more g l. f b (es ++ more) (c.meets b more g l) }
+  comes_weaker n m (Read t k) P Q le f a es c = record { ready = c.ready; labels = c.labels; there = c.there; meets = λ b more g l. f b (es ++ more) (c.meets b more g l) }
   comes_weaker n m (First p) P Q le f a es c = record {
     ready = c.ready;
+    labels = c.labels;
     there = c.there;
     within = c.within;
     meets = λ b d s ends nulls first put is null g l. f d (cond nulls es (take p.from es) ++ first) (c.meets b d s ends nulls first put is null g l);
@@ -77,17 +78,19 @@ module _ (defs : Definitions) (tail : ℕ) (a : Table) (v w : Work) (even : IsEv
     fewer = λ f is. omega (arith, one f);
   }
 
-  pub opens_alt : (x y : Bor Tree) → Ready (length defs) a.cells.items (ty_of x.now) → Ready (length defs) a.cells.items (ty_of y.now) → w.tasks.items ≡ (v.tasks.items ++ Read y tail ∷ []) ++ Read x tail ∷ [] → w.edges.items ≡ v.edges.items
+  pub opens_alt : (x y : Bor Tree) → Ready (length defs) a.cells.items (ty_of x.now) → Ready (length defs) a.cells.items (ty_of y.now) → LabelsStand defs a.cells.items (ty_of x.now) → LabelsStand defs a.cells.items (ty_of y.now) → w.tasks.items ≡ (v.tasks.items ++ Read y tail ∷ []) ++ Read x tail ∷ [] → w.edges.items ≡ v.edges.items
       → Opens defs (alt (ty_of x.now) (ty_of y.now)) tail a v a w
-  opens_alt x y rx ry k e = record {
+  opens_alt x y rx ry lx ly k e = record {
     even = even;
     more = Read y tail ∷ (Read x tail ∷ []);
     tasks = k ∙ append_assoc v.tasks.items (Read y tail ∷ []) (Read x tail ∷ []);
     come = record {
       ready = rx;
+      labels = lx;
       there = there;
       meets = λ b first g l. record {
         ready = ready_on defs (length a.rows.items) (length defs) a b (ty_of y.now) ry g;
+        labels = labels_on defs (length a.rows.items) a b (ty_of y.now) ly g;
         there = omega (arith, there, grows-length (length a.rows.items) a b g);
         meets = λ c second h m. record {
           grows = grows_on a b c g h;
@@ -100,19 +103,21 @@ module _ (defs : Definitions) (tail : ℕ) (a : Table) (v w : Work) (even : IsEv
     fewer = λ f is. omega arith;
   }
 
-  pub opens_seq : (x y : Bor Tree) (i : ℕ) → i ≡ length v.edges.items → Ready (length defs) a.cells.items (ty_of x.now) → Ready (length defs) a.cells.items (ty_of y.now)
+  pub opens_seq : (x y : Bor Tree) (i : ℕ) → i ≡ length v.edges.items → Ready (length defs) a.cells.items (ty_of x.now) → Ready (length defs) a.cells.items (ty_of y.now) → LabelsStand defs a.cells.items (ty_of x.now) → LabelsStand defs a.cells.items (ty_of y.now)
       → w.tasks.items ≡ (v.tasks.items ++ First (record { left = x; right = y; next = tail; from = i }) ∷ []) ++ Read y tail ∷ [] → w.edges.items ≡ v.edges.items → Opens defs (seq (ty_of x.now) (ty_of y.now)) tail a v a w
-  opens_seq x y i at rx ry k e = record {
+  opens_seq x y i at rx ry lx ly k e = record {
     even = even;
     more = First (record { left = x; right = y; next = tail; from = i }) ∷ (Read y tail ∷ []);
     tasks = k ∙ append_assoc v.tasks.items (First (record { left = x; right = y; next = tail; from = i }) ∷ []) (Read y tail ∷ []);
     come = record {
       ready = ry;
+      labels = ly;
       there = there;
       meets = λ b own g l.
           let at_end : i ≡ length w.edges.items = at ∙ ap length (sym e) in
           record {
             ready = ready_on defs (length a.rows.items) (length defs) a b (ty_of x.now) rx g;
+            labels = labels_on defs (length a.rows.items) a b (ty_of x.now) lx g;
             there = omega (arith, there, grows-length (length a.rows.items) a b g);
             within = omega (arith, at_end, length-append w.edges.items own);
             meets = λ c d s ends nulls first put is null h m.
@@ -121,16 +126,16 @@ module _ (defs : Definitions) (tail : ℕ) (a : Table) (v w : Work) (even : IsEv
                   grows = grows_on a b d g (grows_on b c d (put-grows defs b c (ty_of y.now) tail ends own s put') h);
                   more = cond nulls own [] ++ first;
                   edges = ap (λ l. l ++ first) (cut_own w.edges.items own i nulls at_end) ∙ append_assoc w.edges.items (cond nulls own []) first ∙ ap (λ l. l ++ (cond nulls own [] ++ first)) e;
-                  linear = linear_seq defs a b c d (ty_of x.now) (ty_of y.now) tail s own first (cond nulls own [] ++ first) nulls ends l put' is h m null refl;
+                  linear = linear_seq defs a b c d (ty_of x.now) (ty_of y.now) tail s own first (cond nulls own [] ++ first) nulls ends (labels_on defs (length a.rows.items) a b (ty_of y.now) ly g) l put' is h m null refl;
                 };
           };
     };
     fewer = λ f is. omega arith;
   }
 
-  pub opens_star : (x : Bor Tree) (b : Table) (i s : ℕ) → i ≡ length v.edges.items → Ready (length defs) a.cells.items (ty_of x.now) → Put a b (star (ty_of x.now)) tail true [] s
+  pub opens_star : (x : Bor Tree) (b : Table) (i s : ℕ) → i ≡ length v.edges.items → Ready (length defs) a.cells.items (ty_of x.now) → LabelsStand defs a.cells.items (ty_of x.now) → Put a b (star (ty_of x.now)) tail true [] s
       → w.tasks.items ≡ (v.tasks.items ++ Row s i ∷ []) ++ Read x s ∷ [] → w.edges.items ≡ v.edges.items → Opens defs (star (ty_of x.now)) tail a v b w
-  opens_star x b i s at rx put k e =
+  opens_star x b i s at rx lx put k e =
       let ab = put-grows defs a b (star (ty_of x.now)) tail true [] s put in
       let even_b : IsEven b = put-even a b (star (ty_of x.now)) tail true [] s even put in
       let below : s < length b.cells.items = put-below defs a b (star (ty_of x.now)) tail true [] s put in
@@ -142,6 +147,7 @@ module _ (defs : Definitions) (tail : ℕ) (a : Table) (v w : Work) (even : IsEv
         tasks = k ∙ append_assoc v.tasks.items (Row s i ∷ []) (Read x s ∷ []);
         come = record {
           ready = ready_on defs (length a.rows.items) (length defs) a b (ty_of x.now) rx ab;
+          labels = labels_on defs (length a.rows.items) a b (ty_of x.now) lx ab;
           there = below;
           meets = λ c edges g l. record {
             late = late;
@@ -151,7 +157,7 @@ module _ (defs : Definitions) (tail : ℕ) (a : Table) (v w : Work) (even : IsEv
               grows = grows_set (length a.rows.items) s a c d true (drop i (w.edges.items ++ edges)) late (grows_on a b c ab g) set;
               more = edges;
               edges = ap (λ l. l ++ edges) e;
-              linear = linear_star defs a b c d (ty_of x.now) tail s edges (drop i (w.edges.items ++ edges)) even there put g l set (drop_own w.edges.items edges i at_end);
+              linear = linear_star defs a b c d (ty_of x.now) tail s edges (drop i (w.edges.items ++ edges)) even there lx put g l set (drop_own w.edges.items edges i at_end);
             };
           };
         };
@@ -165,6 +171,7 @@ module _ (defs : Definitions) (tail : ℕ) (a : Table) (v w : Work) (even : IsEv
     tasks = k;
     come = record {
       ready = ry;
+      labels = λ n h. inl (x, ty_of y.now, body, h);
       there = there;
       meets = λ b more g l. record { grows = g; more = more; edges = ap (λ l. l ++ more) e; linear = linear_name defs a b x (ty_of y.now) tail more body l };
     };
@@ -183,14 +190,14 @@ pub record Runs (defs : Definitions) (names : List Bool) (a : Table) (t : Ty) (t
   pub come : AllCome defs (length a.rows.items) tasks (λ c all. Linear defs a c t tail all) b es
 
 module _ (defs : Definitions) (names : List Bool) (a : Table) (tail : ℕ) where
-  pub runs_begin : (x : Bor Tree) (tasks : List Task) (es : List Edge) → IsGround defs names a → Ready (length defs) a.cells.items (ty_of x.now) → tail < length a.cells.items → tasks ≡ Read x tail ∷ [] → es ≡ [] → Runs defs names a (ty_of x.now) tail a tasks es
-  runs_begin x tasks es g r lt k e = record {
+  pub runs_begin : (x : Bor Tree) (tasks : List Task) (es : List Edge) → IsGround defs names a → Ready (length defs) a.cells.items (ty_of x.now) → LabelsStand defs a.cells.items (ty_of x.now) → tail < length a.cells.items → tasks ≡ Read x tail ∷ [] → es ≡ [] → Runs defs names a (ty_of x.now) tail a tasks es
+  runs_begin x tasks es g r ls lt k e = record {
     grows = grows_same (length a.rows.items) a (omega arith);
     ground = g;
     come =
         let aim : Table → List Edge → Type 0 = λ c all. Linear defs a c (ty_of x.now) tail all in
         subst (λ l. AllCome defs (length a.rows.items) l aim a es) (sym k)
-        (subst (λ l. Comes defs (length a.rows.items) (Read x tail) aim a l) (sym e) (record { ready = r; there = lt; meets = λ b more h l. l }));
+        (subst (λ l. Comes defs (length a.rows.items) (Read x tail) aim a l) (sym e) (record { ready = r; labels = ls; there = lt; meets = λ b more h l. l }));
   }
 
   module _ (t : Ty) (b : Table) (all rest : List Task) (es : List Edge) (k : Task) (runs : Runs defs names a t tail b all es) (is : all ≡ rest ++ k ∷ []) where
@@ -244,6 +251,7 @@ module _ (defs : Definitions) (names : List Bool) (a : Table) (tail : ℕ) where
           come = subst (λ l. AllCome defs floor l aim c w.edges.items) (sym (o.tasks ∙ ap (λ l. l ++ Read p.left o.state ∷ []) vk))
               (all_join defs floor rest (Read p.left o.state ∷ []) aim c w.edges.items (record {
                 ready = ready_on defs (length b.rows.items) (length defs) b c left come.ready g;
+                labels = labels_on defs (length b.rows.items) b c left come.labels g;
                 there = put-below defs b c right p.next ends (drop p.from es) o.state put;
                 meets = λ d first h l.
                     subst (λ j. AllCome defs floor rest aim d (j ++ first)) (sym edges)

@@ -1,6 +1,7 @@
 -- An automaton of types, as contracts see it.
 use Rattle.std.specs.Prelude.{◌≡◌, ◌⊎◌, ◌↔◌, ℕ, ◌<◌, Bool, true, false, List, Option, Some, None, length, slice_get, refl}
 use Rattle.std.proofs.Common.{inl, inr}
+use base.Stored.{coded_unit}
 use Rattle.std.specs.Coded.{Coded, code_by, coded×, coded⊎, coded_ℕ, coded_bool, coded_list}
 use Rattle.flux_atom.specs.declared.atom.AtomKind.TheVariants as kind
 use Rattle.flux_trees.specs.Hedge.{Plain}
@@ -10,13 +11,16 @@ use Rattle.flux_schema.specs.TyCode.{ty_code}
 use Rattle.flux_schema.specs.Definitions.{Definitions}
 use Rattle.flux_schema.specs.DefinitionCodes.{definitions_code}
 use Rattle.flux_schema.specs.Member.{Member}
+use Rattle.flux_schema.specs.Labels.{IsGiven, IsLabelledBy}
 use Rattle.flux_auto.specs.declared.edge.Edge.{Edge}
-use Rattle.flux_auto.specs.declared.edge.Edge.TheVariants.{Atom, Elem}
+use Rattle.flux_auto.specs.declared.edge.Edge.TheVariants.{Atom, Elem, AnyElem}
 use Rattle.flux_auto.specs.Takes.{State, takes, EdgesBelow}
 
--- the definitions, the types added, in order, the state of each, and the states
+-- the definitions, a label that stands for those that no type names, the types added, in order, the
+-- state of each, and the states
 pub record Automaton : Type 0 where
   pub definitions : Definitions
+  pub other : ℕ
   pub types : List Ty
   pub starts : List ℕ
   pub states : List State
@@ -25,10 +29,13 @@ pub record Automaton : Type 0 where
 abbrev pub TakesMembers : Automaton → ℕ → Ty → Type 0
 TakesMembers a s t = (v : Plain) → (takes a.states s v ≡ true) ↔ Member a.definitions v t
 
--- a forest that is whole and a member of the type; none where the type has no member
-abbrev pub IsSomeMember : Definitions → Ty → Option (Draft (Unit {0})) → Type 0
-IsSomeMember defs t (Some d) = IsWhole d × Member defs (outer d) t
-IsSomeMember defs t None = (v : Plain) → ¬ (Member defs v t)
+-- a forest that is whole and a member of the type, each label of which is `other`, or stands in a
+-- definition or in a type that was added; none where the type has no member
+abbrev pub IsSomeMember : Automaton → Ty → Option (Draft (Unit {0})) → Type 0
+IsSomeMember a t (Some d) =
+    IsWhole d × Member a.definitions (outer d) t
+    × IsLabelledBy a.definitions a.other a.types (outer d)
+IsSomeMember a t None = (v : Plain) → ¬ (Member a.definitions v t)
 
 -- each state that was there is there, and takes what it took
 pub record KeepsStates (old new : List State) : Type 0 where
@@ -40,28 +47,45 @@ abbrev pub EdgesInside : List State → Type 0
 EdgesInside states = (s : ℕ) (state : State) → slice_get states s ≡ Some state
     → EdgesBelow (length states) state.edges
 
+-- each label of an edge by an element stands in a definition or in a type that was added
+abbrev pub EdgesGiven : Automaton → Type 0
+EdgesGiven a = (s : ℕ) (state : State) → slice_get a.states s ≡ Some state
+    → (i n c r : ℕ) → slice_get state.edges i ≡ Some (Elem n c r) → IsGiven a.definitions a.types n
+
 -- ---- codes
 
-abbrev from_edge : Edge → (Bool × ℕ) ⊎ (ℕ × (ℕ × ℕ))
-from_edge (Atom kind.Bool r) = inl (true, r)
-from_edge (Atom kind.Text r) = inl (false, r)
-from_edge (Elem n c r) = inr (n, (c, r))
+-- an edge as its kind of atom, its label or neither, and its states
+abbrev Parts : Type 0
+Parts = ((Bool ⊎ Unit {0}) × ℕ) ⊎ ((ℕ ⊎ Unit {0}) × (ℕ × ℕ))
 
-abbrev to_edge : (Bool × ℕ) ⊎ (ℕ × (ℕ × ℕ)) → Edge
-to_edge (inl (true, r)) = Atom kind.Bool r
-to_edge (inl (false, r)) = Atom kind.Text r
-to_edge (inr (n, (c, r))) = Elem n c r
+abbrev from_edge : Edge → Parts
+from_edge (Atom kind.Bool r) = inl (inl true, r)
+from_edge (Atom kind.Text r) = inl (inl false, r)
+from_edge (Atom kind.Int r) = inl (inr tt, r)
+from_edge (Elem n c r) = inr (inl n, (c, r))
+from_edge (AnyElem c r) = inr (inr tt, (c, r))
+
+abbrev to_edge : Parts → Edge
+to_edge (inl (inl true, r)) = Atom kind.Bool r
+to_edge (inl (inl false, r)) = Atom kind.Text r
+to_edge (inl (inr _, r)) = Atom kind.Int r
+to_edge (inr (inl n, (c, r))) = Elem n c r
+to_edge (inr (inr _, (c, r))) = AnyElem c r
 
 pub to_edge-from_edge : (e : Edge) → to_edge (from_edge e) ≡ e
 to_edge-from_edge (Atom kind.Bool r) = refl
 to_edge-from_edge (Atom kind.Text r) = refl
+to_edge-from_edge (Atom kind.Int r) = refl
 to_edge-from_edge (Elem n c r) = refl
+to_edge-from_edge (AnyElem c r) = refl
 
 -- the code of an edge
 abbrev pub edge_code : Coded Edge
 edge_code =
-    code_by ((Bool × ℕ) ⊎ (ℕ × (ℕ × ℕ)))
-    (coded⊎ (coded× coded_bool coded_ℕ) (coded× coded_ℕ (coded× coded_ℕ coded_ℕ)))
+    code_by Parts
+    (coded⊎
+    (coded× (coded⊎ coded_bool coded_unit) coded_ℕ)
+    (coded× (coded⊎ coded_ℕ coded_unit) (coded× coded_ℕ coded_ℕ)))
     from_edge to_edge to_edge-from_edge
 
 -- the code of a state
@@ -73,9 +97,16 @@ state_code =
 -- the code of an automaton
 abbrev pub automaton_code : Coded Automaton
 automaton_code =
-    code_by (Definitions × (List Ty × (List ℕ × List State)))
+    code_by (Definitions × (ℕ × (List Ty × (List ℕ × List State))))
     (coded× definitions_code
-    (coded× (coded_list ty_code) (coded× (coded_list coded_ℕ) (coded_list state_code))))
-    (λ a. (a.definitions, (a.types, (a.starts, a.states))))
-    (λ p. record { definitions = p.0; types = p.1.0; starts = p.1.1.0; states = p.1.1.1 })
+    (coded× coded_ℕ
+    (coded× (coded_list ty_code) (coded× (coded_list coded_ℕ) (coded_list state_code)))))
+    (λ a. (a.definitions, (a.other, (a.types, (a.starts, a.states)))))
+    (λ p. record {
+      definitions = p.0;
+      other = p.1.0;
+      types = p.1.1.0;
+      starts = p.1.1.1.0;
+      states = p.1.1.1.1;
+    })
     (λ _. refl)

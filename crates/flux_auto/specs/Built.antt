@@ -4,13 +4,14 @@ use Rattle.flux_trees.specs.Hedge.{Plain, nil}
 use Rattle.flux_schema.specs.Ty.{Ty, empty, NamesBelow}
 use Rattle.flux_schema.specs.Definitions.{Definitions}
 use Rattle.flux_schema.specs.Member.{Member}
+use Rattle.flux_schema.specs.Labels.{IsLabelOf}
 use Rattle.flux_types.specs.Read.{ty_of}
 use Rattle.flux_auto.specs.declared.edge.Edge.{Edge}
 use Rattle.flux_auto.specs.declared.table.Cell.{Cell}
 use Rattle.flux_auto.specs.declared.table.Row.{Row}
 use Rattle.flux_auto.specs.declared.table.Table.{Table}
 use Rattle.flux_auto.specs.Takes.{State, EdgesBelow}
-use Rattle.flux_auto.specs.Standing.{In, at, lists, FollowsAny, TellsEmpty, Ready, BodiesReady, Reads, IsContent}
+use Rattle.flux_auto.specs.Standing.{In, at, lists, FollowsAny, TellsEmpty, Ready, BodiesReady, IsHeadLabel, IsBodyLabel, IsTableLabel, EdgesLabelled, Reads, IsContent}
 
 -- a row for each cell
 abbrev pub IsEven : Table → Type 0
@@ -64,6 +65,7 @@ pub record IsOwn (defs : Definitions) (cs : List Cell) (s : ℕ) (r : Row) : Typ
 -- a row that has all edges of its state
 pub record IsClosed (defs : Definitions) (cs : List Cell) (s : ℕ) (r : Row) : Type 0 where
   pub below : EdgesBelow (length cs) r.edges.items
+  pub labels : EdgesLabelled defs cs r.edges.items
   pub sound : (z : Plain) → FollowsAny defs (lists cs) r.edges.items z → In defs z (at (lists cs) s)
   pub complete : (z : Plain) → (z ≡ nil → ⊥) → In defs z (at (lists cs) s)
       → FollowsAny defs (lists cs) r.edges.items z
@@ -74,12 +76,23 @@ abbrev pub OwnFrom : Definitions → ℕ → Table → Type 0
 OwnFrom defs n b =
     (s : ℕ) (r : Row) → n ≤ s → slice_get b.rows.items s ≡ Some r → IsOwn defs b.cells.items s r
 
+-- no label stands in the second table that doesn't in the first
+abbrev pub NoNewLabels : Definitions → Table → Table → Type 0
+NoNewLabels defs a b =
+    (n : ℕ) → IsTableLabel defs b.cells.items n → IsTableLabel defs a.cells.items n
+
+-- no label stands in its cells that doesn't in those of the first, or in the type
+abbrev pub LabelsFrom : Table → Table → Ty → Type 0
+LabelsFrom a b t =
+    (n : ℕ) → IsHeadLabel b.cells.items n → IsHeadLabel a.cells.items n ⊎ IsLabelOf n t
+
 -- what reading a type gives: states more, and edges
 pub record Linear (defs : Definitions) (a b : Table) (t : Ty) (tail : ℕ)
     (es : List Edge) : Type 0 where
   pub even : IsEven b
   pub own : OwnFrom defs (length a.rows.items) b
   pub reads : Reads defs b.cells.items t tail es
+  pub labels : NoNewLabels defs a b
 
 -- a cell that stands for a type alone, whose contents have states
 pub record IsFresh (n : ℕ) (cs : List Cell) (c : Cell) : Type 0 where
@@ -95,12 +108,14 @@ pub record Registered (a b : Table) (t : Ty) : Type 0 where
   pub even : IsEven b
   pub ready : (n : ℕ) → NamesBelow n t → Ready n b.cells.items t
   pub fresh : (n : ℕ) → NamesBelow n t → FreshFrom n (length a.cells.items) b.cells.items
+  pub labels : LabelsFrom a b t
 
 -- a type has a state; what is new stands for types alone
 pub record PutContent (a b : Table) (t : Ty) (s : ℕ) : Type 0 where
   pub even : IsEven b
   pub content : IsContent b.cells.items s t
   pub fresh : (n : ℕ) → Ready n a.cells.items t → FreshFrom n (length a.cells.items) b.cells.items
+  pub labels : LabelsFrom a b t
 
 -- the states that a table's rows are
 abbrev pub state_of : Row → State
@@ -130,6 +145,7 @@ pub record Filled (defs : Definitions) (a b : Table) (s : ℕ) : Type 0 where
       → slice_get b.rows.items i ≡ slice_get a.rows.items i
   pub own : (i : ℕ) (r : Row) → (i ≡ s) ⊎ (length a.rows.items ≤ i)
       → slice_get b.rows.items i ≡ Some r → IsOwn defs b.cells.items i r
+  pub labels : NoNewLabels defs a b
 
 -- it has all its edges; the other rows are as they were
 pub record Closed (defs : Definitions) (a b : Table) (s : ℕ) : Type 0 where
@@ -148,7 +164,17 @@ pub record IsBegun (a : Table) : Type 0 where
   pub even : IsEven a
   pub one : length a.cells.items ≡ 1
   pub end : at (lists a.cells.items) 0 ≡ empty ∷ []
+  pub bare : (n : ℕ) → ¬ (IsHeadLabel a.cells.items n)
   pub closed : (defs : Definitions) → ClosedBelow defs 1 a
+
+-- the labels of its cells are those of the bodies
+abbrev pub LabelsOfBodies : Definitions → Table → Type 0
+LabelsOfBodies defs a = (n : ℕ) → IsTableLabel defs a.cells.items n → IsBodyLabel defs n
+
+-- the labels of the table are those of an older one, and of a type
+abbrev pub LabelsMore : Definitions → Table → Table → Ty → Type 0
+LabelsMore defs a b t = (n : ℕ)
+    → IsTableLabel defs b.cells.items n → IsTableLabel defs a.cells.items n ⊎ IsLabelOf n t
 
 -- a table with a state of a type
 pub record Extended (defs : Definitions) (names : List Bool) (a : Table) (t : Ty)

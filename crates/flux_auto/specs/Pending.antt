@@ -1,7 +1,7 @@
 -- What is still to be read of a type, and what it comes to.
 use Rattle.std.specs.Prelude.{◌≡◌, ℕ, ◌+◌, ◌<◌, ◌≤◌, ◌↔◌, List, [], ◌∷◌, ◌++◌, length, take, drop, Bool, true, cond, Some}
 use Rattle.flux_trees.specs.Hedge.{nil}
-use Rattle.flux_schema.specs.Ty.{Ty, empty, atom, element, seq, alt, star, named}
+use Rattle.flux_schema.specs.Ty.{Ty, empty, atom, element, any_element, seq, alt, star, named}
 use Rattle.flux_schema.specs.Definitions.{Definitions, body_of, IsGood}
 use Rattle.flux_schema.specs.Member.{Member}
 use Rattle.flux_types.specs.Read.{ty_of}
@@ -12,7 +12,7 @@ use Rattle.flux_auto.specs.declared.linear.Task.{Task}
 use Rattle.flux_auto.specs.declared.linear.Task.TheVariants.{Read, First, Row}
 use Rattle.flux_auto.specs.declared.linear.Work.{Work}
 use Rattle.flux_auto.specs.Takes.{has}
-use Rattle.flux_auto.specs.Standing.{Ready, empties}
+use Rattle.flux_auto.specs.Standing.{Ready, LabelsStand, empties}
 use Rattle.flux_auto.specs.Built.{Grows, Put, IsSet, IsEven, Linear}
 
 -- An aim is what is to hold of a table and of the edges that were found.
@@ -21,6 +21,7 @@ use Rattle.flux_auto.specs.Built.{Grows, Put, IsSet, IsEven, Linear}
 pub record ComesType (defs : Definitions) (t : Ty) (tail : ℕ) (aim : Table → List Edge → Type 0)
     (a : Table) (es : List Edge) : Type 0 where
   pub ready : Ready (length defs) a.cells.items t
+  pub labels : LabelsStand defs a.cells.items t
   pub there : tail < length a.cells.items
   pub meets : (b : Table) (more : List Edge) → Grows (length a.rows.items) a b
       → Linear defs a b t tail more → aim b (es ++ more)
@@ -30,6 +31,7 @@ pub record ComesType (defs : Definitions) (t : Ty) (tail : ℕ) (aim : Table →
 pub record ComesFirst (defs : Definitions) (t u : Ty) (tail from : ℕ)
     (aim : Table → List Edge → Type 0) (a : Table) (es : List Edge) : Type 0 where
   pub ready : Ready (length defs) a.cells.items t
+  pub labels : LabelsStand defs a.cells.items t
   pub there : tail < length a.cells.items
   pub within : from ≤ length es
   pub meets : (b c : Table) (s : ℕ) (ends nulls : Bool) (first : List Edge)
@@ -67,6 +69,7 @@ abbrev pub effort : (ℕ → ℕ) → Ty → ℕ
 effort f empty = 1
 effort f (atom k) = 1
 effort f (element n t) = 1
+effort f (any_element t) = 1
 effort f (seq t u) = effort f t + effort f u + 3
 effort f (alt t u) = effort f t + effort f u + 3
 effort f (star t) = effort f t + 3

@@ -2,12 +2,13 @@
 use Rattle.std.specs.Prelude.{◌≡◌, ◌⊎◌, ℕ, ◌<◌, ◌≤◌, List, [], ◌∷◌, ◌++◌, length, Option, Some, None, slice_get, Bool, true, false, ◌&&◌, ◌||◌, ◌↔◌}
 use Rattle.flux_atom.specs.Atom.{kind_of}
 use Rattle.flux_trees.specs.Hedge.{Plain, nil, elem, leaf, join}
-use Rattle.flux_schema.specs.Ty.{Ty, empty, atom, element, seq, alt, star, named}
+use Rattle.flux_schema.specs.Ty.{Ty, empty, atom, element, any_element, seq, alt, star, named}
 use Rattle.flux_schema.specs.Definitions.{Definitions, body_of}
 use Rattle.flux_schema.specs.Member.{Member}
+use Rattle.flux_schema.specs.Labels.{IsLabelOf}
 use Rattle.flux_types.specs.Read.{ty_of}
 use Rattle.flux_auto.specs.declared.edge.Edge.{Edge}
-use Rattle.flux_auto.specs.declared.edge.Edge.TheVariants.{Atom, Elem}
+use Rattle.flux_auto.specs.declared.edge.Edge.TheVariants.{Atom, Elem, AnyElem}
 use Rattle.flux_auto.specs.declared.table.Cell.{Cell}
 use Rattle.flux_auto.specs.Takes.{has, EdgesBelow}
 
@@ -38,6 +39,8 @@ abbrev pub Follows : Definitions → List (List Ty) → Edge → Plain → Type 
 Follows defs ts e nil = ⊥
 Follows defs ts (Elem n c r) (elem _ a v w) = (n ≡ a) × In defs v (at ts c) × In defs w (at ts r)
 Follows defs ts (Elem n c r) (leaf _ x w) = ⊥
+Follows defs ts (AnyElem c r) (elem _ a v w) = In defs v (at ts c) × In defs w (at ts r)
+Follows defs ts (AnyElem c r) (leaf _ x w) = ⊥
 Follows defs ts (Atom k r) (elem _ a v w) = ⊥
 Follows defs ts (Atom k r) (leaf _ x w) = (k ≡ kind_of x) × In defs w (at ts r)
 
@@ -56,6 +59,7 @@ abbrev pub empties : (ℕ → Bool) → Ty → Bool
 empties q empty = true
 empties q (atom k) = false
 empties q (element n t) = false
+empties q (any_element t) = false
 empties q (seq t u) = empties q t && empties q u
 empties q (alt t u) = empties q t || empties q u
 empties q (star t) = true
@@ -83,6 +87,7 @@ abbrev pub Ready : ℕ → List Cell → Ty → Type 0
 Ready n cs empty = Unit {0}
 Ready n cs (atom k) = Unit {0}
 Ready n cs (element m t) = HasContent cs t
+Ready n cs (any_element t) = HasContent cs t
 Ready n cs (seq t u) = Ready n cs t × Ready n cs u
 Ready n cs (alt t u) = Ready n cs t × Ready n cs u
 Ready n cs (star t) = Ready n cs t
@@ -92,12 +97,38 @@ Ready n cs (named x) = x < n
 abbrev pub BodiesReady : Definitions → List Cell → Type 0
 BodiesReady defs cs = (x : ℕ) (t : Ty) → body_of defs x ≡ Some t → Ready (length defs) cs t
 
+-- the label stands in the type of a cell
+abbrev pub IsHeadLabel : List Cell → ℕ → Type 0
+IsHeadLabel cs n = (s : ℕ) × (c : Cell) × (slice_get cs s ≡ Some c) × IsLabelOf n (ty_of c.head)
+
+-- or it stands in the body of a definition
+abbrev pub IsBodyLabel : Definitions → ℕ → Type 0
+IsBodyLabel defs n = (x : ℕ) × (t : Ty) × (body_of defs x ≡ Some t) × IsLabelOf n t
+
+abbrev pub IsTableLabel : Definitions → List Cell → ℕ → Type 0
+IsTableLabel defs cs n = IsBodyLabel defs n ⊎ IsHeadLabel cs n
+
+-- so it is with each label of the type
+abbrev pub LabelsStand : Definitions → List Cell → Ty → Type 0
+LabelsStand defs cs t = (n : ℕ) → IsLabelOf n t → IsTableLabel defs cs n
+
+-- so it is with the label of each edge by an element
+abbrev pub EdgeLabelled : Definitions → List Cell → Edge → Type 0
+EdgeLabelled defs cs (Atom k r) = Unit {0}
+EdgeLabelled defs cs (Elem n c r) = IsTableLabel defs cs n
+EdgeLabelled defs cs (AnyElem c r) = Unit {0}
+
+abbrev pub EdgesLabelled : Definitions → List Cell → List Edge → Type 0
+EdgesLabelled defs cs [] = Unit {0}
+EdgesLabelled defs cs (e ∷ es) = EdgeLabelled defs cs e × EdgesLabelled defs cs es
+
 -- edges of a type and then the list of a state: they go by just the forests that begin with the
 -- type
 pub record Reads (defs : Definitions) (cs : List Cell) (t : Ty) (tail : ℕ)
     (es : List Edge) : Type 0 where
   pub tail_below : tail < length cs
   pub below : EdgesBelow (length cs) es
+  pub labels : EdgesLabelled defs cs es
   pub sound : (z : Plain) → FollowsAny defs (lists cs) es z → Starts defs t (at (lists cs) tail) z
   pub complete : (z : Plain) → Starts defs t (at (lists cs) tail) z
       → FollowsAny defs (lists cs) es z

@@ -6,7 +6,7 @@ use Rattle.flux_atom.specs.Atom.{kind_of}
 use Rattle.flux_trees.specs.Hedge.{Plain, nil, elem, leaf}
 use Rattle.flux_schema.specs.Tidy.{same_kind}
 use Rattle.flux_auto.specs.declared.edge.Edge.{Edge}
-use Rattle.flux_auto.specs.declared.edge.Edge.TheVariants.{Atom, Elem}
+use Rattle.flux_auto.specs.declared.edge.Edge.TheVariants.{Atom, Elem, AnyElem}
 
 -- a state: whether it ends, and the trees that it goes on by
 pub record State : Type 0 where
@@ -24,11 +24,13 @@ has p s = slice_index_or p s false
 abbrev pub goes_by_element : ℕ → List Bool → List Bool → Edge → Bool
 goes_by_element n p q (Atom k r) = false
 goes_by_element n p q (Elem m c r) = (m == n) && (has p c && has q r)
+goes_by_element n p q (AnyElem c r) = has p c && has q r
 
 -- an edge goes by an atom of a kind, where q is the profile of the trees after it
 abbrev pub goes_by_atom : AtomKind → List Bool → Edge → Bool
 goes_by_atom k q (Atom j r) = same_kind j k && has q r
 goes_by_atom k q (Elem m c r) = false
+goes_by_atom k q (AnyElem c r) = false
 
 -- a state takes the empty forest exactly where it ends
 abbrev pub profile_nil : List State → List Bool
@@ -50,7 +52,7 @@ profile states (leaf _ x r) = profile_atom states (kind_of x) (profile states r)
 
 -- A state takes the empty forest exactly where it ends. It takes a tree and a rest exactly where
 -- one of its edges is an atom of the tree's kind whose state takes the rest, or an element of its
--- label whose first state takes its content and whose second takes the rest.
+-- label, or of any label, whose first state takes its content and whose second takes the rest.
 abbrev pub takes : List State → ℕ → Plain → Bool
 takes states s v = has (profile states v) s
 
@@ -58,6 +60,7 @@ takes states s v = has (profile states v) s
 abbrev pub EdgeBelow : ℕ → Edge → Type 0
 EdgeBelow n (Atom k r) = r < n
 EdgeBelow n (Elem m c r) = (c < n) × (r < n)
+EdgeBelow n (AnyElem c r) = (c < n) × (r < n)
 
 abbrev pub EdgesBelow : ℕ → List Edge → Type 0
 EdgesBelow n [] = Unit {0}

@@ -1,14 +1,14 @@
 // The edges of an automaton, by the trees that they go by.
 ghost use Rattle.std.specs.Prelude.{◌≡◌, ◌<◌, ◌∷◌, [], ℕ, length, IfOk, OnOk};
 ghost use Rattle.flux_auto.specs.Arcs.{leaving, arcs_at, leaps_at, Adds, IsIndex};
-ghost use Rattle.flux_auto.specs.declared.edge.Edge.TheVariants.{Atom, Elem};
+ghost use Rattle.flux_auto.specs.declared.edge.Edge.TheVariants.{Atom, Elem, AnyElem};
 
 use crate::Edge;
 use crate::table::Row;
 use flux_atom::{AtomKind, Name};
 use std::alloc::{AllocError, Global};
 
-// An edge by an element of a known label: the state that it leaves, that of the content, and that
+// An edge by an element of a known label, or of any: the state that it leaves, that of the content, and that
 // of the trees after the element.
 #[derive(Clone, Copy)]
 pub(crate) struct Arc {
@@ -24,12 +24,15 @@ pub(crate) struct Leap {
     pub(crate) next: u64,
 }
 
-// The edges by elements, at the number of their label, and those by atoms, of each kind.
+// The edges by elements, at the number of their label, those by elements of any label, and those by
+// atoms, of each kind.
 #[derive(Drop)]
 pub(crate) struct Arcs {
     pub(crate) by_label: Vec<Vec<Arc>>,
+    pub(crate) any_label: Vec<Arc>,
     pub(crate) texts: Vec<Leap>,
     pub(crate) truths: Vec<Leap>,
+    pub(crate) numbers: Vec<Leap>,
 }
 
 impl Arcs {
@@ -39,8 +42,10 @@ impl Arcs {
     {
         let mut arcs = Arcs {
             by_label: Vec::new(alloc),
+            any_label: Vec::new(alloc),
             texts: Vec::new(alloc),
             truths: Vec::new(alloc),
+            numbers: Vec::new(alloc),
         };
         for source in 0..rows.len() {
             add_all(&mut arcs, source as u64, rows[source].edges.as_slice())?;
@@ -48,7 +53,7 @@ impl Arcs {
         Ok(arcs)
     }
 
-    // The edges by an element with a label.
+    // The edges by an element with a label alone.
     pub(crate) fn for_label(&self, label: Name) -> &[Arc]
         ensures { result.now ≡ arcs_at self.now.by_label.items label }
     {
@@ -65,6 +70,7 @@ impl Arcs {
         match kind {
             AtomKind::Bool => self.truths.as_slice(),
             AtomKind::Text => self.texts.as_slice(),
+            AtomKind::Int => self.numbers.as_slice(),
         }
     }
 }
@@ -91,12 +97,20 @@ fn add_arc(arcs: &mut Arcs, label: Name, arc: Arc) -> Result<(), AllocError>
     Ok(())
 }
 
+fn add_any(arcs: &mut Arcs, arc: Arc) -> Result<(), AllocError>
+    ensures { OnOk result (Adds arcs.old arcs.new ((arc.source, AnyElem arc.content arc.next) ∷ [])) }
+{
+    arcs.any_label.push(arc)?;
+    Ok(())
+}
+
 fn add_leap(arcs: &mut Arcs, kind: AtomKind, leap: Leap) -> Result<(), AllocError>
     ensures { OnOk result (Adds arcs.old arcs.new ((leap.source, Atom kind leap.next) ∷ [])) }
 {
     match kind {
         AtomKind::Bool => arcs.truths.push(leap)?,
         AtomKind::Text => arcs.texts.push(leap)?,
+        AtomKind::Int => arcs.numbers.push(leap)?,
     }
     Ok(())
 }
@@ -112,15 +126,21 @@ fn add(arcs: &mut Arcs, source: u64, edge: &Edge) -> Result<(), AllocError>
         }
         Edge::Elem(label, content, next) => {
             let (content, next) = (*content, *next);
-            add_arc(
-                arcs,
-                *label,
-                Arc {
-                    source,
-                    content,
-                    next,
-                },
-            )
+            let arc = Arc {
+                source,
+                content,
+                next,
+            };
+            add_arc(arcs, *label, arc)
+        }
+        Edge::AnyElem(content, next) => {
+            let (content, next) = (*content, *next);
+            let arc = Arc {
+                source,
+                content,
+                next,
+            };
+            add_any(arcs, arc)
         }
     }
 }

@@ -13,6 +13,7 @@ use crate::names::empty_names;
 use crate::run::{set_of, takes};
 use crate::table::Table;
 use crate::witness::some_of;
+use flux_atom::Name;
 use flux_forest::{Forest, View};
 use flux_types::{Defs, Ty, copy_of};
 use std::alloc::{AllocError, Global};
@@ -48,6 +49,7 @@ pub(crate) struct Added {
 #[derive(Drop)]
 pub struct Auto {
     defs: Defs,
+    other: Name,
     // of each definition, whether the empty forest is a member
     names: Vec<bool>,
     table: Table,
@@ -63,18 +65,21 @@ impl Model for Auto {
 
     ghost use Rattle.flux_auto.specs.Shown.{shown, IsRight};
 
-    ghost view = { λ a. shown a.defs a.table a.added.items };
+    ghost view = { λ a. shown a.defs a.other a.table a.added.items };
 
     ghost invariant = { λ a. IsRight a.defs a.names.items a.table a.added.items };
 }
 
 impl Auto {
     ghost use Rattle.flux_auto.specs.TakesLaw.{TakesByEdges};
-    ghost use Rattle.flux_auto.specs.Automaton.{IsSomeMember, TakesMembers, KeepsStates, EdgesInside};
+    ghost use Rattle.flux_auto.specs.Automaton.{IsSomeMember, TakesMembers, KeepsStates, EdgesInside, EdgesGiven};
 
-    /// An automaton of the definitions, to which no type was added. It keeps copies of them.
-    pub fn new(alloc: Global, defs: &Defs) -> Result<Auto, AllocError>
+    /// An automaton of the definitions, to which no type was added. It keeps copies of them. An
+    /// element of any label is shown by one with the label `other`, which may be one that no type
+    /// names. What is a member doesn't depend on it.
+    pub fn new(alloc: Global, defs: &Defs, other: Name) -> Result<Auto, AllocError>
         ensures definitions { IfOk result (λ auto. auto.definitions ≡ defs.now) }
+        ensures other { IfOk result (λ auto. auto.other ≡ other) }
         ensures none { IfOk result (λ auto. auto.types ≡ []) }
     {
         let defs = defs.copy(alloc)?;
@@ -83,6 +88,7 @@ impl Auto {
         let added = Vec::new(alloc);
         Ok(Auto {
             defs,
+            other,
             names,
             table,
             added,
@@ -95,6 +101,7 @@ impl Auto {
         ensures start { IfOk result (λ start. start ≡ length self.old.types) }
         ensures types { OnOk result (self.new.types ≡ self.old.types ++ ty_of ty.now ∷ []) }
         ensures definitions { OnOk result (self.new.definitions ≡ self.old.definitions) }
+        ensures other { OnOk result (self.new.other ≡ self.old.other) }
         ensures states { OnOk result (KeepsStates self.old.states self.new.states) }
         ensures starts { (i s : ℕ)
             → slice_get self.old.starts i ≡ Some s → slice_get self.new.starts i ≡ Some s }
@@ -114,7 +121,7 @@ impl Auto {
     /// Whether a forest is a member of a type that was added. First it sorts the edges by what they
     /// go by, which takes the time of going over them and the names up to the last label once.
     /// Then each node takes the time of filling a truth value for each state, and of going over the
-    /// edges of its label alone, or of its kind of atom. The memory is that of the edges, and a
+    /// edges of its label and of any label alone, or of its kind of atom. The memory is that of the edges, and a
     /// truth value for each state and each element that is open at once. It doesn't recurse.
     pub fn member(&self, start: Start, view: View<'_>) -> Result<bool, AllocError>
         requires { start < length self.now.types }
@@ -128,15 +135,17 @@ impl Auto {
         Ok(takes(&set, self.added[start.0].state))
     }
 
-    /// A member of a type that was added, if it has one. Where names double what they stand for
+    /// A member of a type that was added, if it has one. An element of any label has the label that
+    /// the automaton was made with, a number is 0, a truth value false and a text empty. Where names double what they stand for
     /// at each step, as `X=a[Y],a[Y]` and `Y=b[Z],b[Z]`, so do the members, and memory is wanting.
     pub fn some(&self, start: Start) -> Result<Option<Forest>, AllocError>
         requires { start < length self.now.types }
         ensures { IfOk result (λ found. IfSome (slice_get self.now.types start)
-            (λ t. IsSomeMember self.now.definitions t found)) }
+            (λ t. IsSomeMember self.now t found)) }
     {
         let alloc = *self.added.allocator();
-        some_of(alloc, self.table.rows.as_slice(), self.added[start.0].state)
+        let rows = self.table.rows.as_slice();
+        some_of(alloc, rows, self.other, self.added[start.0].state)
     }
 
     /// How many states there are: they are the numbers below it.
@@ -144,6 +153,7 @@ impl Auto {
         ensures count { result ≡ length self.now.states }
         ensures law { TakesByEdges self.now.states }
         ensures edges { EdgesInside self.now.states }
+        ensures labels { EdgesGiven self.now }
     {
         self.table.rows.len() as u64
     }

@@ -1,7 +1,7 @@
 // Edges for the states that wait for them.
 ghost use Rattle.std.specs.Prelude.{◌≡◌, ◌<◌, ◌≤◌, ◌++◌, ℕ, Some, slice_get, length, IfOk, OnOk};
 ghost use Rattle.flux_auto.specs.declared.table.Row.{Row};
-ghost use Rattle.flux_auto.specs.Built.{Grows, IsEven, IsGround, IsOwn, OwnFrom, ClosedBelow, Awaits, FreshFrom, Filled, Closed, IsComplete};
+ghost use Rattle.flux_auto.specs.Built.{Grows, IsEven, IsGround, IsOwn, OwnFrom, NoNewLabels, ClosedBelow, Awaits, FreshFrom, Filled, Closed, IsComplete};
 
 use crate::Edge;
 use crate::linear::linear;
@@ -44,6 +44,7 @@ fn fill_all(
     ensures grows { Grows from table.old table.new }
     ensures even { OnOk result (IsEven table.new) }
     ensures own { OnOk result (OwnFrom defs.now from table.new) }
+    ensures labels { OnOk result (NoNewLabels defs.now table.old table.new) }
 {
     let end = table.cells.len() as u64;
     for state in from..end {
@@ -113,6 +114,7 @@ pub(crate) fn complete(
     requires older { ClosedBelow defs.now from table.old }
     ensures grows { Grows from table.old table.new }
     ensures ok { OnOk result (IsComplete defs.now names.now table.new) }
+    ensures labels { OnOk result (NoNewLabels defs.now table.old table.new) }
 {
     fill_all(alloc, defs, names, table, from)?;
     close_all(alloc, defs, table, from)?;

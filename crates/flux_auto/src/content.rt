@@ -16,6 +16,7 @@ fn is_same(left: &Ty, right: &Ty) -> bool
         (Ty::Empty, Ty::Empty) => true,
         (Ty::Atom(k), Ty::Atom(l)) => k == l,
         (Ty::Elem(n, t), Ty::Elem(m, u)) => n == m && is_same(t.get(), u.get()),
+        (Ty::AnyElem(t), Ty::AnyElem(u)) => is_same(t.get(), u.get()),
         (Ty::Seq(t, u), Ty::Seq(v, w)) => is_same(t.get(), v.get()) && is_same(u.get(), w.get()),
         (Ty::Alt(t, u), Ty::Alt(v, w)) => is_same(t.get(), v.get()) && is_same(u.get(), w.get()),
         (Ty::Star(t), Ty::Star(u)) => is_same(t.get(), u.get()),
@@ -66,7 +67,7 @@ pub(crate) fn register(alloc: Global, table: &mut Table, ty: &Ty) -> Result<(), 
 {
     match ty {
         Ty::Empty | Ty::Atom(_) | Ty::Named(_) => Ok(()),
-        Ty::Elem(_, inner) => {
+        Ty::Elem(_, inner) | Ty::AnyElem(inner) => {
             let content = inner.get();
             register(alloc, table, content)?;
             put_content(alloc, table, content)?;

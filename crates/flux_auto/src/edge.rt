@@ -9,4 +9,6 @@ pub enum Edge {
     Atom(AtomKind, u64),
     /// An element with the label, the state of its content and that of the trees after it.
     Elem(Name, u64, u64),
+    /// An element of any label, the state of its content and that of the trees after it.
+    AnyElem(u64, u64),
 }

@@ -2,7 +2,7 @@
 ghost use Rattle.std.specs.Prelude.{◌≡◌, ◌<◌, ◌≤◌, ◌∷◌, [], length, IfOk, OnOk, OnErr};
 ghost use Rattle.flux_schema.specs.Ty.{empty};
 ghost use Rattle.flux_types.specs.Read.{ty_of};
-ghost use Rattle.flux_auto.specs.Standing.{Ready, BodiesReady, at, lists};
+ghost use Rattle.flux_auto.specs.Standing.{Ready, BodiesReady, LabelsStand, at, lists};
 ghost use Rattle.flux_auto.specs.Built.{Grows, IsEven, IsGround, Linear};
 ghost use Rattle.flux_auto.specs.Pending.{Opens, PutsSecond, FillsRow};
 
@@ -52,6 +52,7 @@ fn read<'t>(
     requires end { at (lists table.old.cells.items) 0 ≡ empty ∷ [] }
     requires bodies { BodiesReady defs.now table.old.cells.items }
     requires ready { Ready (length defs.now) table.old.cells.items (ty_of ty.now) }
+    requires labels { LabelsStand defs.now table.old.cells.items (ty_of ty.now) }
     requires tail { next < length table.old.cells.items }
     ensures grows { Grows (length table.old.rows.items) table.old table.new }
     ensures ok { OnOk result
@@ -63,6 +64,10 @@ fn read<'t>(
         Ty::Elem(label, inner) => {
             let content = find(&table.cells, inner.get()).unwrap_or(0);
             work.edges.push(Edge::Elem(*label, content, next))?;
+        }
+        Ty::AnyElem(inner) => {
+            let content = find(&table.cells, inner.get()).unwrap_or(0);
+            work.edges.push(Edge::AnyElem(content, next))?;
         }
         Ty::Seq(left, right) => {
             let (left, right, from) = (left.get(), right.get(), work.edges.len());
@@ -149,6 +154,7 @@ pub(crate) fn linear(
 ) -> Result<Vec<Edge>, AllocError>
     requires ground { IsGround defs.now names.now table.old }
     requires ready { Ready (length defs.now) table.old.cells.items (ty_of ty.now) }
+    requires labels { LabelsStand defs.now table.old.cells.items (ty_of ty.now) }
     requires tail { next < length table.old.cells.items }
     ensures grows { Grows (length table.old.rows.items) table.old table.new }
     ensures ok { IfOk result

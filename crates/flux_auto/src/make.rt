@@ -3,7 +3,7 @@ ghost use Rattle.std.specs.Prelude.{◌≡◌, ◌<◌, ◌≤◌, length, take,
 ghost use Rattle.flux_schema.specs.Definitions.{IsKnown};
 ghost use Rattle.flux_types.specs.Read.{ty_of};
 ghost use Rattle.flux_auto.specs.Standing.{TellsEmpty};
-ghost use Rattle.flux_auto.specs.Built.{Grows, IsBegun, IsComplete, Extended};
+ghost use Rattle.flux_auto.specs.Built.{Grows, IsBegun, IsComplete, LabelsOfBodies, LabelsMore, Extended};
 
 use crate::close::complete;
 use crate::content::{put_content, register};
@@ -26,7 +26,8 @@ fn begun(alloc: Global) -> Result<Table, AllocError>
 // A table with the states of the definitions.
 pub(crate) fn begin(alloc: Global, defs: &Defs, names: &[bool]) -> Result<Table, AllocError>
     requires { TellsEmpty defs.now names.now }
-    ensures { IfOk result (IsComplete defs.now names.now) }
+    ensures complete { IfOk result (IsComplete defs.now names.now) }
+    ensures labels { IfOk result (LabelsOfBodies defs.now) }
 {
     let mut table = begun(alloc)?;
     for index in 0..defs.len() {
@@ -48,6 +49,7 @@ fn extend(
     requires known { IsKnown defs.now (ty_of ty.now) }
     ensures grows { Grows (length table.old.rows.items) table.old table.new }
     ensures ok { IfOk result (λ s. Extended defs.now names.now table.new (ty_of ty.now) s) }
+    ensures labels { OnOk result (LabelsMore defs.now table.old table.new (ty_of ty.now)) }
 {
     let from = table.cells.len() as u64;
     register(alloc, table, ty)?;
@@ -68,6 +70,7 @@ pub(crate) fn extend_or_stay(
     requires known { IsKnown defs.now (ty_of ty.now) }
     ensures grows { OnOk result (Grows (length table.old.rows.items) table.old table.new) }
     ensures ok { IfOk result (λ s. Extended defs.now names.now table.new (ty_of ty.now) s) }
+    ensures labels { OnOk result (LabelsMore defs.now table.old table.new (ty_of ty.now)) }
     ensures cells { OnErr result (table.new.cells.items ≡ table.old.cells.items) }
     ensures rows { OnErr result (table.new.rows.items ≡ table.old.rows.items) }
 {

@@ -15,7 +15,7 @@ pub(crate) fn has_empty(names: &[bool], ty: &Ty) -> bool
 {
     match ty {
         Ty::Empty | Ty::Star(_) => true,
-        Ty::Atom(_) | Ty::Elem(_, _) => false,
+        Ty::Atom(_) | Ty::Elem(_, _) | Ty::AnyElem(_) => false,
         Ty::Seq(left, right) => has_empty(names, left.get()) && has_empty(names, right.get()),
         Ty::Alt(left, right) => has_empty(names, left.get()) || has_empty(names, right.get()),
         Ty::Named(index) => match names.get(*index as usize) {

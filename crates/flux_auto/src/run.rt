@@ -2,7 +2,7 @@
 ghost use Rattle.std.specs.Prelude.{◌≡◌, ℕ, length, IfOk, map, set, true};
 ghost use Rattle.flux_forest.specs.View.{forest_of};
 ghost use Rattle.flux_auto.specs.Takes.{profile, profile_nil, profile_element, profile_atom, has};
-ghost use Rattle.flux_auto.specs.Arcs.{IsIndex, mark_by_arc, mark_by_leap};
+ghost use Rattle.flux_auto.specs.Arcs.{IsIndex, mark_by_arc, mark_by_arcs, mark_by_leap};
 ghost use Rattle.flux_auto.specs.Built.{state_of};
 ghost use Rattle.flux_auto.specs.Folding.{AreTrees};
 
@@ -52,6 +52,14 @@ fn mark_by_arc(marks: &mut Vec<bool>, arc: &Arc, content: &[bool], rest: &[bool]
     }
 }
 
+fn mark_by_arcs(marks: &mut Vec<bool>, arcs: &[Arc], content: &[bool], rest: &[bool])
+    ensures { marks.new.items ≡ mark_by_arcs content.now rest.now marks.old.items arcs.now }
+{
+    for arc in arcs {
+        mark_by_arc(marks, arc, content, rest);
+    }
+}
+
 fn mark_by_leap(marks: &mut Vec<bool>, leap: &Leap, rest: &[bool])
     ensures { marks.new.items ≡ mark_by_leap rest.now marks.old.items leap.now }
 {
@@ -83,10 +91,8 @@ fn set_of_element(
         set.items ≡ profile_element (map state_of rows.now) label content.now rest.now) }
 {
     let mut set = Vec::from_elem(alloc, false, rows.len())?;
-    let labelled = arcs.for_label(label);
-    for arc in labelled {
-        mark_by_arc(&mut set, arc, content, rest);
-    }
+    mark_by_arcs(&mut set, arcs.for_label(label), content, rest);
+    mark_by_arcs(&mut set, arcs.any_label.as_slice(), content, rest);
     Ok(set)
 }
 

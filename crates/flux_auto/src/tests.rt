@@ -17,7 +17,7 @@ fn is_known(ty: &Ty, count: u32) -> bool
 {
     match ty {
         Ty::Empty | Ty::Atom(_) => true,
-        Ty::Elem(_, inner) | Ty::Star(inner) => is_known(inner.get(), count),
+        Ty::Elem(_, inner) | Ty::AnyElem(inner) | Ty::Star(inner) => is_known(inner.get(), count),
         Ty::Seq(left, right) | Ty::Alt(left, right) => {
             is_known(left.get(), count) && is_known(right.get(), count)
         }
@@ -32,17 +32,19 @@ enum Sign {
     Kind(AtomKind),
     Named(u32),
     Element(Name),
+    AnyLabel,
     Star,
     Seq,
     Alt,
 }
 
-use Sign::{Alt, Element, Kind, Named, Nothing, Seq, Star};
+use Sign::{Alt, AnyLabel, Element, Kind, Named, Nothing, Seq, Star};
 
 fn one(alloc: Global, sign: Sign, parts: &mut Vec<Ty>) -> Result<Ty, AllocError> {
     let first = parts.pop().unwrap_or(Ty::Empty);
     match sign {
         Element(name) => Ok(Ty::Elem(name, Boxed::new(alloc, first)?)),
+        AnyLabel => Ok(Ty::AnyElem(Boxed::new(alloc, first)?)),
         Star => Ok(Ty::Star(Boxed::new(alloc, first)?)),
         _ => Ok(first),
     }
@@ -64,7 +66,7 @@ fn ty(alloc: Global, signs: &[Sign]) -> Result<Ty, AllocError> {
             Nothing => Ty::Empty,
             Kind(kind) => Ty::Atom(kind),
             Named(index) => Ty::Named(index),
-            Element(_) | Star => one(alloc, *sign, &mut parts)?,
+            Element(_) | AnyLabel | Star => one(alloc, *sign, &mut parts)?,
             Seq | Alt => two(alloc, *sign, &mut parts)?,
         };
         parts.push(made)?;
@@ -121,20 +123,25 @@ fn set(
 }
 
 #[tactic(auto, using(flux_types::proofs::KeptLaws::counts))]
-fn two_names(alloc: Global, first: Name, second: Name) -> Result<Draft, Fail>
-    ensures { IfOk result (λ draft. length draft ≡ 2) }
+fn three_names(alloc: Global, first: Name, second: Name, third: Name) -> Result<Draft, Fail>
+    ensures { IfOk result (λ draft. length draft ≡ 3) }
 {
     let mut draft = Draft::new(alloc);
     draft.declare(first)?;
     draft.declare(second)?;
+    draft.declare(third)?;
     Ok(draft)
 }
 
-// Two labels, and the definitions A = a[A*] and X = x[X].
+// Labels, of which no type of the definitions A = a[A*], X = x[X] and B = any[B] names `c`, and no
+// other type `other`.
 #[derive(Drop)]
 struct Scene {
     a: Name,
     x: Name,
+    b: Name,
+    c: Name,
+    other: Name,
     defs: Defs,
 }
 
@@ -142,17 +149,23 @@ fn make_scene(rt: &impl Abort, alloc: Global) -> Result<Scene, Fail> {
     let mut names = Names::new(alloc);
     let a = label(rt, &mut names, "a")?;
     let x = label(rt, &mut names, "x")?;
-    let mut draft = two_names(alloc, a, x)?;
-    set(
-        rt,
-        &mut draft,
-        2,
-        0,
-        ty(alloc, &[Element(a), Star, Named(0)])?,
-    )?;
-    set(rt, &mut draft, 2, 1, ty(alloc, &[Element(x), Named(1)])?)?;
+    let b = label(rt, &mut names, "b")?;
+    let c = label(rt, &mut names, "c")?;
+    let other = label(rt, &mut names, "other")?;
+    let mut draft = three_names(alloc, a, x, b)?;
+    let body = ty(alloc, &[Element(a), Star, Named(0)])?;
+    set(rt, &mut draft, 3, 0, body)?;
+    set(rt, &mut draft, 3, 1, ty(alloc, &[Element(x), Named(1)])?)?;
+    set(rt, &mut draft, 3, 2, ty(alloc, &[AnyLabel, Named(2)])?)?;
     let defs = draft.close()?;
-    Ok(Scene { a, x, defs })
+    Ok(Scene {
+        a,
+        x,
+        b,
+        c,
+        other,
+        defs,
+    })
 }
 
 // Whether a forest is a member of a type, by an automaton of its own.
@@ -160,12 +173,13 @@ fn is_member(
     rt: &impl Abort,
     alloc: Global,
     defs: &Defs,
+    other: Name,
     ty: &Ty,
     forest: &Forest,
 ) -> Result<bool, Fail> {
     assert!(rt; is_known(ty, defs.len()));
     assert!(rt; forest.is_whole());
-    let mut auto = Auto::new(alloc, defs)?;
+    let mut auto = Auto::new(alloc, defs, other)?;
     let start = auto.add(ty)?;
     Ok(auto.member(start, forest.view())?)
 }
@@ -174,13 +188,14 @@ fn assert_member(
     rt: &impl Abort,
     alloc: Global,
     defs: &Defs,
+    other: Name,
     signs: &[Sign],
     steps: &[Step<'_>],
     want: bool,
 ) -> Result<(), Fail> {
     let ty = ty(alloc, signs)?;
     let forest = built(rt, alloc, steps)?;
-    assert_eq!(rt; is_member(rt, alloc, defs, &ty, &forest)?, want);
+    assert_eq!(rt; is_member(rt, alloc, defs, other, &ty, &forest)?, want);
     Ok(())
 }
 
@@ -189,12 +204,13 @@ fn assert_some(
     rt: &impl Abort,
     alloc: Global,
     defs: &Defs,
+    other: Name,
     signs: &[Sign],
     want: bool,
 ) -> Result<(), Fail> {
     let ty = ty(alloc, signs)?;
     assert!(rt; is_known(&ty, defs.len()));
-    let mut auto = Auto::new(alloc, defs)?;
+    let mut auto = Auto::new(alloc, defs, other)?;
     let start = auto.add(&ty)?;
     match auto.some(start)? {
         None => assert!(rt; !want),
@@ -210,6 +226,8 @@ const TEXT: Sign = Kind(AtomKind::Text);
 
 const TRUTH: Sign = Kind(AtomKind::Bool);
 
+const WHOLE: Sign = Kind(AtomKind::Int);
+
 #[test]
 fn order_counts(rt: HostRuntime) -> Result<(), Fail> {
     let alloc = rt.alloc();
@@ -217,6 +235,7 @@ fn order_counts(rt: HostRuntime) -> Result<(), Fail> {
     let lib = label(&rt, &mut names, "lib")?;
     let book = label(&rt, &mut names, "book")?;
     let cd = label(&rt, &mut names, "cd")?;
+    let other = label(&rt, &mut names, "other")?;
     let defs = Draft::new(alloc).close()?;
     // lib[book[string]*,cd[string]]
     let ty = [
@@ -238,7 +257,7 @@ fn order_counts(rt: HostRuntime) -> Result<(), Fail> {
         End,
         End,
     ];
-    assert_member(&rt, alloc, &defs, &ty, &good, true)?;
+    assert_member(&rt, alloc, &defs, other, &ty, &good, true)?;
     let bad = [
         Begin(lib),
         Begin(cd),
@@ -249,7 +268,7 @@ fn order_counts(rt: HostRuntime) -> Result<(), Fail> {
         End,
         End,
     ];
-    assert_member(&rt, alloc, &defs, &ty, &bad, false)
+    assert_member(&rt, alloc, &defs, other, &ty, &bad, false)
 }
 
 #[test]
@@ -262,15 +281,25 @@ fn atoms_beside_elements(rt: HostRuntime) -> Result<(), Fail> {
         &rt,
         alloc,
         &at.defs,
+        at.other,
         &ty,
         &[Begin(at.a), End, Truth(true)],
         true,
     )?;
-    assert_member(&rt, alloc, &at.defs, &ty, &[Text("a"), Truth(false)], true)?;
     assert_member(
         &rt,
         alloc,
         &at.defs,
+        at.other,
+        &ty,
+        &[Text("a"), Truth(false)],
+        true,
+    )?;
+    assert_member(
+        &rt,
+        alloc,
+        &at.defs,
+        at.other,
         &ty,
         &[Truth(true), Truth(false)],
         false,
@@ -282,10 +311,17 @@ fn types_with_members(rt: HostRuntime) -> Result<(), Fail> {
     let alloc = rt.alloc();
     let at = make_scene(&rt, alloc)?;
     // a[]*, A and (string|a[]),bool
-    assert_some(&rt, alloc, &at.defs, &[Star, Element(at.a), Nothing], true)?;
-    assert_some(&rt, alloc, &at.defs, &[Named(0)], true)?;
+    assert_some(
+        &rt,
+        alloc,
+        &at.defs,
+        at.other,
+        &[Star, Element(at.a), Nothing],
+        true,
+    )?;
+    assert_some(&rt, alloc, &at.defs, at.other, &[Named(0)], true)?;
     let ty = [Seq, Alt, TEXT, Element(at.a), Nothing, TRUTH];
-    assert_some(&rt, alloc, &at.defs, &ty, true)
+    assert_some(&rt, alloc, &at.defs, at.other, &ty, true)
 }
 
 #[test]
@@ -293,9 +329,9 @@ fn types_without_members(rt: HostRuntime) -> Result<(), Fail> {
     let alloc = rt.alloc();
     let at = make_scene(&rt, alloc)?;
     // X and a[x[X]]
-    assert_some(&rt, alloc, &at.defs, &[Named(1)], false)?;
+    assert_some(&rt, alloc, &at.defs, at.other, &[Named(1)], false)?;
     let none = [Element(at.a), Element(at.x), Named(1)];
-    assert_some(&rt, alloc, &at.defs, &none, false)?;
+    assert_some(&rt, alloc, &at.defs, at.other, &none, false)?;
     // x[]|a[x[X]]
     let ty = [
         Alt,
@@ -305,8 +341,16 @@ fn types_without_members(rt: HostRuntime) -> Result<(), Fail> {
         Element(at.x),
         Named(1),
     ];
-    assert_some(&rt, alloc, &at.defs, &ty, true)?;
-    assert_member(&rt, alloc, &at.defs, &ty, &[Begin(at.x), End], true)
+    assert_some(&rt, alloc, &at.defs, at.other, &ty, true)?;
+    assert_member(
+        &rt,
+        alloc,
+        &at.defs,
+        at.other,
+        &ty,
+        &[Begin(at.x), End],
+        true,
+    )
 }
 
 #[test]
@@ -315,11 +359,11 @@ fn stars_of_stars(rt: HostRuntime) -> Result<(), Fail> {
     let at = make_scene(&rt, alloc)?;
     // ((a[]*)*)*
     let ty = [Star, Star, Star, Element(at.a), Nothing];
-    assert_member(&rt, alloc, &at.defs, &ty, &[], true)?;
+    assert_member(&rt, alloc, &at.defs, at.other, &ty, &[], true)?;
     let three = [Begin(at.a), End, Begin(at.a), End, Begin(at.a), End];
-    assert_member(&rt, alloc, &at.defs, &ty, &three, true)?;
+    assert_member(&rt, alloc, &at.defs, at.other, &ty, &three, true)?;
     let other = [Begin(at.a), End, Begin(at.x), End];
-    assert_member(&rt, alloc, &at.defs, &ty, &other, false)
+    assert_member(&rt, alloc, &at.defs, at.other, &ty, &other, false)
 }
 
 #[test]
@@ -327,15 +371,133 @@ fn stars_of_nothing(rt: HostRuntime) -> Result<(), Fail> {
     let alloc = rt.alloc();
     let at = make_scene(&rt, alloc)?;
     // ()*
-    assert_member(&rt, alloc, &at.defs, &[Star, Nothing], &[], true)?;
+    assert_member(&rt, alloc, &at.defs, at.other, &[Star, Nothing], &[], true)?;
     assert_member(
         &rt,
         alloc,
         &at.defs,
+        at.other,
         &[Star, Nothing],
         &[Begin(at.a), End],
         false,
     )
+}
+
+// A type in prefix notation: `?` is an element of any label.
+fn sign_of(at: &Scene, byte: u8) -> Option<Sign> {
+    match byte {
+        b'.' => Some(Nothing),
+        b'a' => Some(Element(at.a)),
+        b'b' => Some(Element(at.b)),
+        b'?' => Some(AnyLabel),
+        b's' => Some(TEXT),
+        b'i' => Some(WHOLE),
+        b'|' => Some(Alt),
+        _ => None,
+    }
+}
+
+// A piece of a forest: `o` begins an element with the label `other`, and `s` is the text 1.
+fn add_piece(
+    rt: &impl Abort,
+    alloc: Global,
+    at: &Scene,
+    forest: &mut Forest,
+    byte: u8,
+) -> Result<(), Fail> {
+    match byte {
+        b'a' => forest.begin_element(at.a)?,
+        b'b' => forest.begin_element(at.b)?,
+        b'c' => forest.begin_element(at.c)?,
+        b'o' => forest.begin_element(at.other)?,
+        b'1' => forest.push_atom(Atom::Int(1))?,
+        b'2' => forest.push_atom(Atom::Int(2))?,
+        b's' => forest.push_atom(Atom::Text(Word::of(alloc, "1")?))?,
+        _ => {
+            assert!(rt; !forest.is_whole());
+            forest.end_element();
+        }
+    }
+    Ok(())
+}
+
+fn assert_case(
+    rt: &impl Abort,
+    alloc: Global,
+    at: &Scene,
+    spelled: &str,
+    pieces: &str,
+    want: bool,
+) -> Result<(), Fail> {
+    let mut signs = Vec::new(alloc);
+    for byte in spelled.as_bytes() {
+        if let Some(sign) = sign_of(at, *byte) {
+            signs.push(sign)?;
+        }
+    }
+    let mut forest = Forest::new(alloc);
+    for byte in pieces.as_bytes() {
+        add_piece(rt, alloc, at, &mut forest, *byte)?;
+    }
+    let ty = ty(alloc, &signs)?;
+    assert_eq!(rt;
+        is_member(rt, alloc, &at.defs, at.other, &ty, &forest)?,
+        want
+    );
+    Ok(())
+}
+
+#[test]
+fn any_labels_and_numbers(rt: HostRuntime) -> Result<(), Fail> {
+    let alloc = rt.alloc();
+    let at = make_scene(&rt, alloc)?;
+    // any[], a[]|b[], int, string, int|string, any[int] and a[int]|any[string]
+    let cases = [
+        ("?.", "c]", true),
+        ("?.", "a]", true),
+        ("?.", "o]", true),
+        ("?.", "s", false),
+        ("?.", "1", false),
+        ("|a.b.", "c]", false),
+        ("|a.b.", "o]", false),
+        ("i", "1", true),
+        ("s", "1", false),
+        ("|is", "1", true),
+        ("?i", "a1]", true),
+        ("?i", "as]", false),
+        ("?i", "a12]", false),
+        ("|ai?s", "a1]", true),
+        ("|ai?s", "as]", true),
+        ("|ai?s", "b1]", false),
+        ("|ai?s", "bs]", true),
+    ];
+    for (ty, forest, want) in cases {
+        assert_case(&rt, alloc, &at, ty, forest, want)?;
+    }
+    Ok(())
+}
+
+#[test]
+fn members_of_any_label(rt: HostRuntime) -> Result<(), Fail> {
+    let alloc = rt.alloc();
+    let at = make_scene(&rt, alloc)?;
+    // any[int], int, and B, which has none
+    assert_some(&rt, alloc, &at.defs, at.other, &[AnyLabel, WHOLE], true)?;
+    assert_some(&rt, alloc, &at.defs, at.other, &[WHOLE], true)?;
+    assert_some(&rt, alloc, &at.defs, at.other, &[Named(2)], false)?;
+    // what is shown of any[int] is other[0]
+    let wide = ty(alloc, &[AnyLabel, WHOLE])?;
+    assert!(rt; is_known(&wide, at.defs.len()));
+    let mut auto = Auto::new(alloc, &at.defs, at.other)?;
+    let start = auto.add(&wide)?;
+    let shown = ty(alloc, &[Element(at.other), WHOLE])?;
+    match auto.some(start)? {
+        None => assert!(rt; false),
+        Some(forest) => {
+            assert!(rt; is_member(&rt, alloc, &at.defs, at.other, &shown, &forest)?);
+        }
+    }
+    Ok(())
 }
 
 fn nested(rt: &impl Abort, alloc: Global, name: Name, levels: u32) -> Result<Forest, Fail> {
@@ -366,11 +528,11 @@ fn great_forests(rt: HostRuntime) -> Result<(), Fail> {
     let at = make_scene(&rt, alloc)?;
     let ty = ty(alloc, &[Star, Named(0)])?;
     let deep = nested(&rt, alloc, at.a, 1_000_000)?;
-    assert!(rt; is_member(&rt, alloc, &at.defs, &ty, &deep)?);
+    assert!(rt; is_member(&rt, alloc, &at.defs, at.other, &ty, &deep)?);
     let mut wide = row(&rt, alloc, at.a, 100_000)?;
-    assert!(rt; is_member(&rt, alloc, &at.defs, &ty, &wide)?);
+    assert!(rt; is_member(&rt, alloc, &at.defs, at.other, &ty, &wide)?);
     wide.push_atom(Atom::Bool(true))?;
-    assert!(rt; !is_member(&rt, alloc, &at.defs, &ty, &wide)?);
+    assert!(rt; !is_member(&rt, alloc, &at.defs, at.other, &ty, &wide)?);
     Ok(())
 }
 
@@ -382,7 +544,7 @@ fn starts_stay(rt: HostRuntime) -> Result<(), Fail> {
     let first = ty(alloc, &[Element(at.a), Nothing])?;
     let second = ty(alloc, &[Element(at.x), TEXT])?;
     assert!(rt; is_known(&first, at.defs.len()) && is_known(&second, at.defs.len()));
-    let mut auto = Auto::new(alloc, &at.defs)?;
+    let mut auto = Auto::new(alloc, &at.defs, at.other)?;
     let start = auto.add(&first)?;
     let state = auto.state(start);
     let other = auto.add(&second)?;
@@ -457,10 +619,43 @@ fn chains_of_names(rt: HostRuntime) -> Result<(), Fail> {
     let mut names = Names::new(alloc);
     let a = label(&rt, &mut names, "a")?;
     let b = label(&rt, &mut names, "b")?;
+    let other = label(&rt, &mut names, "other")?;
     let plain = chain(&rt, alloc, &mut names, CHAIN, a, None)?;
-    assert_member(&rt, alloc, &plain, &[Named(0)], &[Begin(a), End], true)?;
-    assert_member(&rt, alloc, &plain, &[Named(0)], &[Begin(b), End], false)?;
+    assert_member(
+        &rt,
+        alloc,
+        &plain,
+        other,
+        &[Named(0)],
+        &[Begin(a), End],
+        true,
+    )?;
+    assert_member(
+        &rt,
+        alloc,
+        &plain,
+        other,
+        &[Named(0)],
+        &[Begin(b), End],
+        false,
+    )?;
     let choices = chain(&rt, alloc, &mut names, CHOICES, a, Some(b))?;
-    assert_member(&rt, alloc, &choices, &[Named(0)], &[Begin(a), End], true)?;
-    assert_member(&rt, alloc, &choices, &[Named(0)], &[Begin(b), End], true)
+    assert_member(
+        &rt,
+        alloc,
+        &choices,
+        other,
+        &[Named(0)],
+        &[Begin(a), End],
+        true,
+    )?;
+    assert_member(
+        &rt,
+        alloc,
+        &choices,
+        other,
+        &[Named(0)],
+        &[Begin(b), End],
+        true,
+    )
 }

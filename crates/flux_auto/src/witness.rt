@@ -2,7 +2,7 @@
 ghost use Rattle.std.specs.Prelude.{◌≡◌, ◌<◌, ◌≤◌, ℕ, Some, None, length, map, slice_get, slice_index_or, IfOk, IfSome, IfNone};
 ghost use Rattle.flux_trees.specs.Draft.{done};
 ghost use Rattle.flux_auto.specs.Built.{state_of};
-ghost use Rattle.flux_auto.specs.Witness.{sample, place, recipe_by, IsRecipe, Lacks, Tried, Round, Knows, Settled, AreOlder, forests, forest_at, IsTakenBy};
+ghost use Rattle.flux_auto.specs.Witness.{sample, place, element_by, recipe_by, IsRecipe, Lacks, Tried, Round, Knows, Settled, AreOlder, forests, forest_at, IsTakenBy};
 
 use crate::Edge;
 use crate::table::Row;
@@ -34,32 +34,38 @@ fn place_of(places: &[Option<u64>], state: u64) -> Option<u64>
     }
 }
 
-fn edge_recipe(edge: &Edge, places: &[Option<u64>]) -> Option<Recipe>
-    ensures { result ≡ recipe_by places.now edge.now }
+fn element_recipe(label: Name, content: u64, next: u64, places: &[Option<u64>]) -> Option<Recipe>
+    ensures { result ≡ element_by places.now label content next }
+{
+    let content = place_of(places, content)?;
+    let next = place_of(places, next)?;
+    Some(Recipe::Elem(label, content, next))
+}
+
+// An element of any label is shown by one with the label `other`.
+fn edge_recipe(edge: &Edge, other: Name, places: &[Option<u64>]) -> Option<Recipe>
+    ensures { result ≡ recipe_by other places.now edge.now }
 {
     match edge {
         Edge::Atom(kind, next) => {
             let next = place_of(places, *next)?;
             Some(Recipe::Atom(*kind, next))
         }
-        Edge::Elem(label, content, next) => {
-            let content = place_of(places, *content)?;
-            let next = place_of(places, *next)?;
-            Some(Recipe::Elem(*label, content, next))
-        }
+        Edge::Elem(label, content, next) => element_recipe(*label, *content, *next, places),
+        Edge::AnyElem(content, next) => element_recipe(other, *content, *next, places),
     }
 }
 
-fn recipe_of(row: &Row, places: &[Option<u64>]) -> Option<Recipe>
-    ensures found { IfSome result (IsRecipe row.now places.now) }
-    ensures none { IfNone result (Lacks row.now places.now) }
+fn recipe_of(row: &Row, other: Name, places: &[Option<u64>]) -> Option<Recipe>
+    ensures found { IfSome result (IsRecipe row.now other places.now) }
+    ensures none { IfNone result (Lacks row.now other places.now) }
 {
     if row.ends {
         return Some(Recipe::End);
     }
     let edges = row.edges.as_slice();
     for edge in edges {
-        if let Some(recipe) = edge_recipe(edge, places) {
+        if let Some(recipe) = edge_recipe(edge, other, places) {
             return Some(recipe);
         }
     }
@@ -67,15 +73,20 @@ fn recipe_of(row: &Row, places: &[Option<u64>]) -> Option<Recipe>
 }
 
 // Finds a forest for a state that has none, and tells whether it did.
-fn add_one(rows: &[Row], known: &mut Witnesses, state: usize) -> Result<bool, AllocError>
-    requires knows { Knows rows.now known.old }
+fn add_one(
+    rows: &[Row],
+    other: Name,
+    known: &mut Witnesses,
+    state: usize,
+) -> Result<bool, AllocError>
+    requires knows { Knows rows.now other known.old }
     requires within { state < length rows.now }
-    ensures { IfOk result (Tried rows.now known.old known.new state) }
+    ensures { IfOk result (Tried rows.now other known.old known.new state) }
 {
     if place_of(&known.places, state as u64).is_some() {
         return Ok(false);
     }
-    let Some(recipe) = recipe_of(&rows[state], &known.places) else {
+    let Some(recipe) = recipe_of(&rows[state], other, &known.places) else {
         return Ok(false);
     };
     let index = known.recipes.len() as u64;
@@ -84,13 +95,13 @@ fn add_one(rows: &[Row], known: &mut Witnesses, state: usize) -> Result<bool, Al
     Ok(true)
 }
 
-fn add_more(rows: &[Row], known: &mut Witnesses) -> Result<bool, AllocError>
-    requires { Knows rows.now known.old }
-    ensures { IfOk result (Round rows.now known.old known.new (length rows.now)) }
+fn add_more(rows: &[Row], other: Name, known: &mut Witnesses) -> Result<bool, AllocError>
+    requires { Knows rows.now other known.old }
+    ensures { IfOk result (Round rows.now other known.old known.new (length rows.now)) }
 {
     let mut more = false;
     for state in 0..rows.len() {
-        if add_one(rows, known, state)? {
+        if add_one(rows, other, known, state)? {
             more = true;
         }
     }
@@ -108,14 +119,14 @@ fn no_places(alloc: Global, rows: &[Row]) -> Result<Vec<Option<u64>>, AllocError
     Ok(places)
 }
 
-fn find_witnesses(alloc: Global, rows: &[Row]) -> Result<Witnesses, AllocError>
-    ensures knows { IfOk result (Knows rows.now) }
-    ensures settled { IfOk result (λ known. Settled rows.now known.places.items) }
+fn find_witnesses(alloc: Global, rows: &[Row], other: Name) -> Result<Witnesses, AllocError>
+    ensures knows { IfOk result (Knows rows.now other) }
+    ensures settled { IfOk result (λ known. Settled rows.now other known.places.items) }
 {
     let places = no_places(alloc, rows)?;
     let recipes = Vec::new(alloc);
     let mut known = Witnesses { recipes, places };
-    while add_more(rows, &mut known)? {}
+    while add_more(rows, other, &mut known)? {}
     Ok(known)
 }
 
@@ -128,6 +139,7 @@ fn sample(alloc: Global, kind: AtomKind) -> Result<Atom, AllocError>
             let empty = Word::of(alloc, "")?;
             Ok(Atom::Text(empty))
         }
+        AtomKind::Int => Ok(Atom::Int(0)),
     }
 }
 
@@ -176,10 +188,15 @@ fn build(alloc: Global, recipes: &[Recipe], start: u64) -> Result<Forest, AllocE
 }
 
 // A forest that a state takes, if it takes one.
-pub(crate) fn some_of(alloc: Global, rows: &[Row], state: u64) -> Result<Option<Forest>, AllocError>
-    ensures { IfOk result (IsTakenBy (map state_of rows.now) state) }
+pub(crate) fn some_of(
+    alloc: Global,
+    rows: &[Row],
+    other: Name,
+    state: u64,
+) -> Result<Option<Forest>, AllocError>
+    ensures { IfOk result (IsTakenBy (map state_of rows.now) other state) }
 {
-    let known = find_witnesses(alloc, rows)?;
+    let known = find_witnesses(alloc, rows, other)?;
     let Some(place) = place_of(&known.places, state) else {
         return Ok(None);
     };

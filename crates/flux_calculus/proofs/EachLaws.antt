@@ -1,6 +1,7 @@
 -- What holds of each label and each atom of a forest, of the values of variables, and of what a
 -- statement and the procedures bring in, holds of what the statement makes of the forest.
-use Rattle.std.proofs.Common.{◌≡◌, ◌∙◌, refl, sym, subst, ℕ, Bool, true, false, List, [], ◌∷◌, Option, Some, None, if◌then◌else◌}
+use Rattle.std.proofs.Common.{◌≡◌, ◌∙◌, refl, sym, subst, ℕ, ℤ, Bool, true, false, List, [], ◌∷◌, Option, Some, None, if◌then◌else◌}
+use Rattle.std.specs.Int.Signed.{lt_z}
 use Rattle.flux_atom.specs.declared.atom.Atom.{Atom}
 use Rattle.flux_atom.specs.declared.atom.Atom.TheVariants.{Bool as Truth}
 use Rattle.flux_trees.specs.Hedge.{Plain, nil, elem, leaf, join, trees}
@@ -10,7 +11,7 @@ use Rattle.flux_trees.proofs.EachLaws.{EachLabel-join, EachAtom-join}
 use Rattle.flux_calculus.specs.declared.ask.Test.{Test}
 use Rattle.flux_calculus.specs.declared.ask.Var.{Var}
 use Rattle.flux_calculus.specs.Tests.{matches}
-use Rattle.flux_calculus.specs.Query.{Query, nothing, both, literal, variable, binding, choice, alike, child, filter, each, same_var, Environment, found, and_value, truth_of, chosen, content_of_one, passing, value_each, value}
+use Rattle.flux_calculus.specs.Query.{Query, nothing, both, literal, variable, binding, choice, alike, less, child, filter, each, same_var, Environment, found, and_value, truth_of, number_of, compared, chosen, content_of_one, passing, value_each, value}
 use Rattle.flux_calculus.specs.Query as query
 use Rattle.flux_calculus.specs.Typing.{Context}
 use Rattle.flux_calculus.specs.Core.{Core, Proc, Procs, proc_of}
@@ -95,6 +96,11 @@ module _ (P : ℕ → Type 0) (Q : Atom → Type 0) where
 
   -- truth values are brought in by each comparison
   module _ (truths : (b : Bool) → Q (Truth b)) where
+    in_compared : (o p : Option ℤ) → HoldsIn (compared o p)
+    in_compared None p = tt
+    in_compared (Some y) None = tt
+    in_compared (Some y) (Some z) = (tt, (truths (lt_z y z), tt))
+
     in_value : (γ : Environment) (q : Query) → AllHold P Q γ → QueryBrings P Q q → HoldsIn (value γ q)
     in_value γ (nothing at) h a = (tt, tt)
     in_value γ (both at q r) h a =
@@ -107,6 +113,8 @@ module _ (P : ℕ → Type 0) (Q : Atom → Type 0) where
         in_and (value γ c) _ (in_value γ c h a.0) (λ v f. in_chosen (truth_of v) (value γ q) (value γ r) (in_value γ q h a.1) (in_value γ r h a.2))
     in_value γ (alike at q r) h a =
         in_and (value γ q) _ (in_value γ q h a.0) (λ v f. in_and (value γ r) _ (in_value γ r h a.1) (λ w g. (tt, (truths (same v w), tt))))
+    in_value γ (less at q r) h a =
+        in_and (value γ q) _ (in_value γ q h a.0) (λ v f. in_and (value γ r) _ (in_value γ r h a.1) (λ w g. in_compared (number_of v) (number_of w)))
     in_value γ (child at x) h a = in_and (found γ x) content_of_one (in_option (found γ x) (h x)) in_content
     in_value γ (filter at q t) h a = in_and (value γ q) _ (in_value γ q h a) (λ v f. of_passing t v f)
     in_value γ (each at x q r) h a =

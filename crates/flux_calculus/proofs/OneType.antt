@@ -10,7 +10,7 @@ use Rattle.flux_calculus.specs.declared.ask.Test.{Test}
 use Rattle.flux_calculus.specs.declared.ask.Var.{Var}
 use Rattle.flux_calculus.specs.Query.{Query}
 use Rattle.flux_calculus.specs.Fault.{Fault}
-use Rattle.flux_calculus.specs.Typing.{Context, Outcome, typed, faulty, concluded, Treatment, Goal, of_query, of_map, returning, keeping, IsAtomic, kept, Types, of_nothing, of_one, of_several, first_of_several, others_of_several, of_element, content_of_element, of_literal, of_variable, of_no_variable, of_binding, bound_of_binding, of_choice, condition_of_choice, no_truth_of_choice, yes_of_choice, no_of_choice, of_alike, left_of_alike, right_of_alike, of_child, of_atom_child, of_many_child, of_no_child, of_filter, from_of_filter, of_each, over_of_each, returns, body_of_each, keeps, of_empty, of_seq, left_of_seq, right_of_seq, of_alt, left_of_alt, right_of_alt, of_star, inside_of_star, of_name}
+use Rattle.flux_calculus.specs.Typing.{Context, Outcome, typed, faulty, concluded, Treatment, Goal, of_query, of_map, returning, keeping, IsAtomic, kept, content_type, Types, of_nothing, of_one, of_several, first_of_several, others_of_several, of_element, content_of_element, of_literal, of_variable, of_no_variable, of_binding, bound_of_binding, of_choice, condition_of_choice, no_truth_of_choice, yes_of_choice, no_of_choice, of_alike, left_of_alike, right_of_alike, of_less, left_of_less, left_no_number, right_of_less, right_no_number, of_child, of_many_child, of_no_child, of_filter, from_of_filter, of_each, over_of_each, returns, body_of_each, keeps, of_empty, of_seq, left_of_seq, right_of_seq, of_alt, left_of_alt, right_of_alt, of_star, inside_of_star, of_name}
 
 -- what the type of an atom's or an element's body comes from
 returned : {defs : Definitions} {Γ : Context} {at : ℕ} {x : Var} {q : Query} {a : Ty} {p : Outcome} → IsAtomic a → Types defs (of_map at (returning Γ x q) a) p →
@@ -103,20 +103,38 @@ once (left_of_alike d) (right_of_alike d' e') = cc (once d d')
 once (right_of_alike d e) (of_alike d' e') = cc (once e e')
 once (right_of_alike d e) (left_of_alike d') = cc (once d d')
 once (right_of_alike d e) (right_of_alike d' e') = once e e'
-once (of_child e s) (of_child e' s') = cc (single-only s (single_of e e' s'))
-once (of_child e s) (of_atom_child e' s') = cc (single-only s (single_of e e' s'))
+once (of_less d i e h) (of_less d' i' e' h') = refl
+once (of_less d i e h) (left_of_less d') = cc (once d d')
+once (of_less d i e h) (left_no_number v d' m n) = absurd (in_and_out (once d d') i m n)
+once (of_less d i e h) (right_of_less d' i' e') = cc (once e e')
+once (of_less d i e h) (right_no_number v d' i' e' m n) = absurd (in_and_out (once e e') h m n)
+once (left_of_less d) (of_less d' i' e' h') = cc (once d d')
+once (left_of_less d) (left_of_less d') = once d d'
+once (left_of_less d) (left_no_number v d' m n) = cc (once d d')
+once (left_of_less d) (right_of_less d' i' e') = cc (once d d')
+once (left_of_less d) (right_no_number v d' i' e' m n) = cc (once d d')
+once (left_no_number v d m n) (of_less d' i' e' h') = absurd (in_and_out (sym (once d d')) i' m n)
+once (left_no_number v d m n) (left_of_less d') = cc (once d d')
+once (left_no_number v d m n) (left_no_number w d' k l) = cc (once d d')
+once (left_no_number v d m n) (right_of_less d' i' e') = absurd (in_and_out (sym (once d d')) i' m n)
+once (left_no_number v d m n) (right_no_number w d' i' e' k l) = absurd (in_and_out (sym (once d d')) i' m n)
+once (right_of_less d i e) (of_less d' i' e' h') = cc (once e e')
+once (right_of_less d i e) (left_of_less d') = cc (once d d')
+once (right_of_less d i e) (left_no_number v d' m n) = absurd (in_and_out (once d d') i m n)
+once (right_of_less d i e) (right_of_less d' i' e') = once e e'
+once (right_of_less d i e) (right_no_number v d' i' e' m n) = cc (once e e')
+once (right_no_number v d i e m n) (of_less d' i' e' h') = absurd (in_and_out (sym (once e e')) h' m n)
+once (right_no_number v d i e m n) (left_of_less d') = cc (once d d')
+once (right_no_number v d i e m n) (left_no_number w d' k l) = absurd (in_and_out (once d d') i k l)
+once (right_no_number v d i e m n) (right_of_less d' i' e') = cc (once e e')
+once (right_no_number v d i e m n) (right_no_number w d' i' e' k l) = cc (once e e')
+once (of_child e s) (of_child e' s') = ap (λ a. typed (content_type a)) (single-only s (single_of e e' s'))
 once (of_child e s) (of_many_child e' n) = absurd (n _ (single_of e' e s))
 once (of_child e s) (of_no_child e') = cc
-once (of_atom_child e s) (of_child e' s') = cc (single-only s (single_of e e' s'))
-once (of_atom_child e s) (of_atom_child e' s') = refl
-once (of_atom_child e s) (of_many_child e' n) = absurd (n _ (single_of e' e s))
-once (of_atom_child e s) (of_no_child e') = cc
 once (of_many_child e n) (of_child e' s') = absurd (n _ (single_of e e' s'))
-once (of_many_child e n) (of_atom_child e' s') = absurd (n _ (single_of e e' s'))
 once (of_many_child e n) (of_many_child e' n') = refl
 once (of_many_child e n) (of_no_child e') = cc
 once (of_no_child e) (of_child e' s') = cc
-once (of_no_child e) (of_atom_child e' s') = cc
 once (of_no_child e) (of_many_child e' n') = cc
 once (of_no_child e) (of_no_child e') = refl
 once (of_filter d e) (of_filter d' e') = once e (mapped_type (once d d') e')

@@ -1,25 +1,27 @@
 -- A query of a type has a value, which is a member of the type.
-use Rattle.std.proofs.Common.{◌≡◌, ◌∙◌, ℕ, Bool, true, false, [], ◌∷◌, Option, Some, None, refl, sym, ap, subst, if◌then◌else◌}
+use Rattle.std.proofs.Common.{◌≡◌, ◌∙◌, ℕ, ℤ, Bool, true, false, [], ◌∷◌, Option, Some, None, refl, sym, ap, subst, if◌then◌else◌, ◌==◌}
+use Rattle.std.proofs.lemmas.Bool.{eqb-true}
+use Rattle.std.specs.Int.Signed.{lt_z}
 use Rattle.flux_atom.specs.declared.atom.Atom.{Atom}
-use Rattle.flux_atom.specs.declared.atom.Atom.TheVariants.{Bool as Truth, Text as Words}
+use Rattle.flux_atom.specs.declared.atom.Atom.TheVariants.{Bool as Truth, Text as Words, Int as Number}
 use Rattle.flux_atom.specs.declared.atom.AtomKind.{AtomKind}
 use Rattle.flux_atom.specs.declared.atom.AtomKind.TheVariants as kind
 use Rattle.flux_atom.specs.Atom.{kind_of}
 use Rattle.flux_trees.specs.Hedge.{Plain, nil, elem, leaf, join, trees}
 use Rattle.flux_trees.specs.Same.{same}
 use Rattle.flux_trees.proofs.HedgeLaws.{join-nil, join_assoc}
-use Rattle.flux_schema.specs.Ty.{Ty, empty, atom, element, seq, alt, star, named}
+use Rattle.flux_schema.specs.Ty.{Ty, empty, atom, element, any_element, seq, alt, star, named}
 use Rattle.flux_schema.specs.Definitions.{Definitions, body_of}
-use Rattle.flux_schema.specs.Member.{Member, in_empty, in_atom, in_element, in_seq, in_left, in_right, in_done, in_more, in_name}
-use Rattle.flux_schema.specs.Single.{Single, of_atom, of_element as of_element_type, of_name as of_named}
+use Rattle.flux_schema.specs.Member.{Member, in_empty, in_atom, in_element, in_any, in_seq, in_left, in_right, in_done, in_more, in_name}
+use Rattle.flux_schema.specs.Single.{Single, of_atom, of_element as of_element_type, of_any, of_name as of_named}
 use Rattle.flux_calculus.specs.declared.ask.Test.{Test}
-use Rattle.flux_calculus.specs.declared.ask.Test.TheVariants.{Label, AnyElement, OfText, OfBool}
+use Rattle.flux_calculus.specs.declared.ask.Test.TheVariants.{Label, AnyElement, OfText, OfBool, OfInt}
 use Rattle.flux_calculus.specs.declared.ask.Var.{Var}
 use Rattle.flux_calculus.specs.Tests.{element_matches, kind_matches, matches}
 use Rattle.flux_calculus.specs.Fault.{too_large}
-use Rattle.flux_calculus.specs.Query.{Query, nothing, both, binding, child, filter, each, alike, choice, literal, variable, same_var, found, Environment, and_value, truth_of, chosen, content_of_one, passing, value_each, value}
+use Rattle.flux_calculus.specs.Query.{Query, nothing, both, binding, child, filter, each, alike, less, choice, literal, variable, same_var, found, Environment, and_value, truth_of, number_of, compared, chosen, content_of_one, passing, value_each, value}
 use Rattle.flux_calculus.specs.Query as query
-use Rattle.flux_calculus.specs.Typing.{Context, Outcome, typed, faulty, is_within, concluded, type_matches, Treatment, Goal, of_query, of_map, returning, keeping, IsAtomic, kept, Suits, Types, of_nothing, of_one, of_several, first_of_several, others_of_several, of_element, content_of_element, of_literal, of_variable, of_no_variable, of_binding, bound_of_binding, of_choice, condition_of_choice, no_truth_of_choice, yes_of_choice, no_of_choice, of_alike, left_of_alike, right_of_alike, of_child, of_atom_child, of_many_child, of_no_child, of_filter, from_of_filter, of_each, over_of_each, returns, body_of_each, keeps, of_empty, of_seq, left_of_seq, right_of_seq, of_alt, left_of_alt, right_of_alt, of_star, inside_of_star, of_name}
+use Rattle.flux_calculus.specs.Typing.{Context, Outcome, typed, faulty, is_within, concluded, Treatment, Goal, of_query, of_map, returning, keeping, IsAtomic, kept, kept_of_any, content_type, Suits, Types, of_nothing, of_one, of_several, first_of_several, others_of_several, of_element, content_of_element, of_literal, of_variable, of_no_variable, of_binding, bound_of_binding, of_choice, condition_of_choice, no_truth_of_choice, yes_of_choice, no_of_choice, of_alike, left_of_alike, right_of_alike, of_less, left_of_less, left_no_number, right_of_less, right_no_number, of_child, of_many_child, of_no_child, of_filter, from_of_filter, of_each, over_of_each, returns, body_of_each, keeps, of_empty, of_seq, left_of_seq, right_of_seq, of_alt, left_of_alt, right_of_alt, of_star, inside_of_star, of_name}
 
 -- ---- values
 
@@ -115,10 +117,8 @@ module _ (defs : Definitions) where
   one_tree : {a : Ty} {v : Plain} → IsAtomic a → Member defs v a → trees v ≡ v ∷ []
   one_tree i (in_atom x e) = refl
   one_tree i (in_element n m) = refl
+  one_tree i (in_any n m) = refl
   one_tree i _ = absurd i
-
-  match_atom : (p : Test) (x : Atom) (k : AtomKind) → kind_of x ≡ k → kind_matches p (kind_of x) ≡ type_matches p (atom k)
-  match_atom p x k e = ap (kind_matches p) e
 
   kept_by : (b c : Bool) (v : Plain) (a : Ty) → b ≡ c → Member defs v a → Member defs (if b then v else nil) (if c then a else empty)
   kept_by true true v a e m = m
@@ -126,9 +126,21 @@ module _ (defs : Definitions) where
   kept_by true false v a e m = cc
   kept_by false true v a e m = cc
 
+  kept_label : (n m : ℕ) (t : Ty) (v : Plain) (b : Bool) → (m == n) ≡ b → Member defs v t → Member defs (if b then elem tt m v nil else nil) (alt (element n t) empty)
+  kept_label n m t v true e d = in_left empty (subst (λ l. Member defs (elem tt l v nil) (element n t)) (sym (eqb-true m n e)) (in_element n d))
+  kept_label n m t v false e d = in_right (element n t) in_empty
+
+  any_kept : (p : Test) (m : ℕ) (t : Ty) (v : Plain) → Member defs v t → Member defs (if element_matches p m then elem tt m v nil else nil) (kept_of_any p t)
+  any_kept (Label n) m t v d = kept_label n m t v (m == n) refl d
+  any_kept AnyElement m t v d = in_any m d
+  any_kept OfText m t v d = in_empty
+  any_kept OfBool m t v d = in_empty
+  any_kept OfInt m t v d = in_empty
+
   one_kept : (p : Test) {a : Ty} {v : Plain} → IsAtomic a → Member defs v a → Member defs (passing p v) (kept p a)
-  one_kept p i (in_atom x {k} e) = kept_by (kind_matches p (kind_of x)) (kind_matches p k) (leaf tt x nil) (atom k) (match_atom p x k e) (in_atom x e)
+  one_kept p i (in_atom x {k} e) = kept_by (kind_matches p (kind_of x)) (kind_matches p k) (leaf tt x nil) (atom k) (ap (kind_matches p) e) (in_atom x e)
   one_kept p i (in_element n {v} {t} m) = kept_by (element_matches p n) (element_matches p n) (elem tt n v nil) (element n t) refl (in_element n m)
+  one_kept p i (in_any n {v} {t} m) = any_kept p n t v m
   one_kept p i _ = absurd i
 
   -- ---- the type of one tree, and the truth values
@@ -139,29 +151,34 @@ module _ (defs : Definitions) where
       same_some : {t u : Ty} {o : Option Ty} → o ≡ Some t → o ≡ Some u → t ≡ u
       same_some e f = cc
 
-  content_of_element_type : (n : ℕ) (t : Ty) (v : Plain) → Member defs v (element n t) → HasValue t (content_of_one v)
-  content_of_element_type n t v (in_element _ {v = c} m) = (c, refl, m)
+  -- the content of one tree is a member of what its type says
+  content_in_tree : {s : Ty} {v : Plain} → IsAtomic s → Member defs v s → HasValue (content_type s) (content_of_one v)
+  content_in_tree i (in_atom x e) = (nil, refl, in_empty)
+  content_in_tree i (in_element _ {v = c} m) = (c, refl, m)
+  content_in_tree i (in_any _ {v = c} m) = (c, refl, m)
+  content_in_tree i _ = absurd i
 
-  content_of_atom_type : (k : AtomKind) (v : Plain) → Member defs v (atom k) → HasValue empty (content_of_one v)
-  content_of_atom_type k v (in_atom x e) = (nil, refl, in_empty)
-
-  -- what the content of the one tree is a member of
-  abbrev ContentIn : Ty → Plain → Type 0
-  ContentIn (element n u) v = HasValue u (content_of_one v)
-  ContentIn (atom k) v = HasValue empty (content_of_one v)
-  ContentIn _ v = Unit {0}
-
-  content_in : {t s : Ty} → Single defs t s → (v : Plain) → Member defs v t → ContentIn s v
-  content_in (of_atom k) v m = content_of_atom_type k v m
-  content_in (of_element_type n t) v m = content_of_element_type n t v m
+  content_in : {t s : Ty} → Single defs t s → (v : Plain) → Member defs v t → HasValue (content_type s) (content_of_one v)
+  content_in (of_atom k) v m = content_in_tree tt m
+  content_in (of_element_type n t) v m = content_in_tree tt m
+  content_in (of_any t) v m = content_in_tree tt m
   content_in (of_named x e h) v m = content_in h v (member_of_body e m)
 
   truth_atom : (x : Atom) → kind_of x ≡ kind.Bool → (b : Bool) × (truth_of (leaf tt x nil) ≡ Some b)
   truth_atom (Truth b) e = (b, refl)
   truth_atom (Words w) e = cc
+  truth_atom (Number z) e = cc
 
   truth_in : {v : Plain} → Member defs v (atom kind.Bool) → (b : Bool) × (truth_of v ≡ Some b)
   truth_in (in_atom x e) = truth_atom x e
+
+  number_atom : (x : Atom) → kind_of x ≡ kind.Int → (z : ℤ) × (number_of (leaf tt x nil) ≡ Some z)
+  number_atom (Truth b) e = cc
+  number_atom (Words w) e = cc
+  number_atom (Number z) e = (z, refl)
+
+  number_in : {v : Plain} → Member defs v (atom kind.Int) → (z : ℤ) × (number_of v ≡ Some z)
+  number_in (in_atom x e) = number_atom x e
 
   in_chosen : (b : Bool) (t u : Ty) (o p : Option Plain) → HasValue t o → HasValue u p → HasValue (alt t u) (chosen (Some b) o p)
   in_chosen true t u o p (v, e, m) h = (v, e, in_left u m)
@@ -240,8 +257,20 @@ module _ (defs : Definitions) where
       λ γ s. let a = f γ s in let b = g γ s in (leaf tt (Truth (same a.0 b.0)) nil, rw (a.1, b.1) refl, in_atom (Truth (same a.0 b.0)) refl)
   sound (left_of_alike d) = tt
   sound (right_of_alike d e) = tt
-  sound (of_child {Γ} {at} {n} {x} {t} {u} e h) = λ γ s. let a = s x t e in at_value u _ _ (rw a.1 refl) (content_in h a.0 a.2)
-  sound (of_atom_child {Γ} {at} {x} {t} {k} e h) = λ γ s. let a = s x t e in at_value empty _ _ (rw a.1 refl) (content_in h a.0 a.2)
+  sound (of_less {q = q} {r} d i e h) =
+      let f = sound d in
+      let g = sound e in
+      λ γ s.
+      let a = f γ s in
+      let b = g γ s in
+      let y = number_in (i a.0 a.2) in
+      let z = number_in (h b.0 b.2) in
+      (leaf tt (Truth (lt_z y.0 z.0)) nil, rw (a.1, b.1, y.1, z.1) refl, in_atom (Truth (lt_z y.0 z.0)) refl)
+  sound (left_of_less d) = tt
+  sound (left_no_number v d m n) = tt
+  sound (right_of_less d i e) = tt
+  sound (right_no_number v d i e m n) = tt
+  sound (of_child {Γ} {at} {x} {t} {s = u} e h) = λ γ s. let a = s x t e in at_value (content_type u) _ _ (rw a.1 refl) (content_in h a.0 a.2)
   sound (of_many_child e n) = tt
   sound (of_no_child e) = tt
   sound (of_filter {Γ} {at} {q} {p} {t} {o} d e) =

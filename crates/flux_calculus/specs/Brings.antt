@@ -4,7 +4,7 @@ use Rattle.flux_atom.specs.declared.atom.Atom.{Atom}
 use Rattle.flux_trees.specs.Hedge.{Plain}
 use Rattle.flux_trees.specs.Each.{EachLabel, EachAtom}
 use Rattle.flux_calculus.specs.declared.ask.Var.{Var}
-use Rattle.flux_calculus.specs.Query.{Query, nothing, both, literal, variable, binding, choice, alike, child, filter, each, Environment, found}
+use Rattle.flux_calculus.specs.Query.{Query, nothing, both, literal, variable, binding, choice, alike, less, child, filter, each, Environment, found}
 use Rattle.flux_calculus.specs.Query as query
 use Rattle.flux_calculus.specs.Core.{Core, skip, snapshot, insert, delete, rename, test, children, left, right, iter, call, Proc, Procs, proc_of}
 use Rattle.flux_calculus.specs.Core as core
@@ -27,6 +27,7 @@ module _ (P : ℕ → Type 0) (Q : Atom → Type 0) where
   QueryBrings (binding at x q r) = QueryBrings q × QueryBrings r
   QueryBrings (choice at c q r) = QueryBrings c × QueryBrings q × QueryBrings r
   QueryBrings (alike at q r) = QueryBrings q × QueryBrings r
+  QueryBrings (less at q r) = QueryBrings q × QueryBrings r
   QueryBrings (child at x) = Unit {0}
   QueryBrings (filter at q t) = QueryBrings q
   QueryBrings (each at x q r) = QueryBrings q × QueryBrings r

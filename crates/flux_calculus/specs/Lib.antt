@@ -9,3 +9,4 @@ pub mod Derives
 pub mod Ending
 pub mod Laws
 pub mod Brings
+pub mod Labels

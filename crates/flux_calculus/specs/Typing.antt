@@ -1,21 +1,22 @@
 -- The type of a query, or the first fault: a rule for each case. Queries and their types are after
--- μXQ; inclusion of types is asked for at a condition alone.
+-- μXQ; inclusion of types is asked for at a condition and at a comparison of numbers.
 use Rattle.std.specs.Prelude.{◌≡◌, ℕ, Bool, true, false, ◌&&◌, nat_lt, ◌∷◌, Some, None, if◌then◌else◌}
 use Rattle.flux_atom.specs.declared.atom.Atom.{Atom}
 use Rattle.flux_atom.specs.declared.atom.AtomKind.{AtomKind}
 use Rattle.flux_atom.specs.declared.atom.AtomKind.TheVariants as kind
 use Rattle.flux_atom.specs.Atom.{kind_of}
 use Rattle.flux_trees.specs.Hedge.{Plain}
-use Rattle.flux_schema.specs.Ty.{Ty, empty, atom, element, seq, alt, star, named, size, height}
+use Rattle.flux_schema.specs.Ty.{Ty, empty, atom, element, any_element, seq, alt, star, named, size, height}
 use Rattle.flux_schema.specs.Definitions.{Definitions, body_of, IsGood}
 use Rattle.flux_schema.specs.Member.{Member, Included}
 use Rattle.flux_schema.specs.Single.{Single, IsNotSingle}
 use Rattle.flux_calculus.specs.declared.ask.Test.{Test}
 use Rattle.flux_calculus.specs.declared.ask.Var.{Var}
 use Rattle.flux_calculus.specs.declared.ask.Span.{Span}
+use Rattle.flux_calculus.specs.declared.ask.Test.TheVariants.{Label, AnyElement, OfText, OfBool, OfInt}
 use Rattle.flux_calculus.specs.Tests.{element_matches, kind_matches}
-use Rattle.flux_calculus.specs.Fault.{Fault, unknown_variable, not_single, not_bool, too_large}
-use Rattle.flux_calculus.specs.Query.{Query, nothing, both, literal, variable, binding, choice, alike, child, filter, each, place_of, Bound, found, Environment, value}
+use Rattle.flux_calculus.specs.Fault.{Fault, unknown_variable, not_single, not_bool, not_int, too_large}
+use Rattle.flux_calculus.specs.Query.{Query, nothing, both, literal, variable, binding, choice, alike, less, child, filter, each, place_of, Bound, found, Environment, value}
 use Rattle.flux_calculus.specs.Query as query
 
 -- variables and their types
@@ -35,16 +36,6 @@ is_within t = nat_lt (size t) 65537 && nat_lt (height t) 501
 abbrev pub concluded : ℕ → Ty → Outcome
 concluded at t = if is_within t then typed t else faulty (too_large at)
 
--- whether every tree of an atom type, or of an element type, passes the test; else none does
-abbrev pub type_matches : Test → Ty → Bool
-type_matches t empty = false
-type_matches t (atom k) = kind_matches t k
-type_matches t (element n u) = element_matches t n
-type_matches t (seq u w) = false
-type_matches t (alt u w) = false
-type_matches t (star u) = false
-type_matches t (named x) = false
-
 -- what is done with each tree of a type: it is bound to a variable and a query takes its place, or
 -- it is kept where it passes a test
 pub data Treatment : Type 0 where
@@ -57,19 +48,46 @@ pub data Goal : Type 0 where
   of_query : (Γ : Context) (q : Query) → Goal
   of_map : (at : ℕ) (f : Treatment) (t : Ty) → Goal
 
--- an atom type or an element type
+-- an atom type or an element type, of one label or of any
 abbrev pub IsAtomic : Ty → Type 0
 IsAtomic empty = ⊥
 IsAtomic (atom k) = Unit {0}
 IsAtomic (element n t) = Unit {0}
+IsAtomic (any_element t) = Unit {0}
 IsAtomic (seq t u) = ⊥
 IsAtomic (alt t u) = ⊥
 IsAtomic (star t) = ⊥
 IsAtomic (named x) = ⊥
 
--- what a test makes of one
+-- what a test leaves of an element type of any label: a label is undecided there
+abbrev pub kept_of_any : Test → Ty → Ty
+kept_of_any (Label n) t = alt (element n t) empty
+kept_of_any AnyElement t = any_element t
+kept_of_any OfText t = empty
+kept_of_any OfBool t = empty
+kept_of_any OfInt t = empty
+
+-- what a test leaves of an atom type or an element type: what passes, else nothing
 abbrev pub kept : Test → Ty → Ty
-kept t a = if type_matches t a then a else empty
+kept p empty = empty
+kept p (atom k) = if kind_matches p k then atom k else empty
+kept p (element n t) = if element_matches p n then element n t else empty
+kept p (any_element t) = kept_of_any p t
+kept p (seq t u) = empty
+kept p (alt t u) = empty
+kept p (star t) = empty
+kept p (named x) = empty
+
+-- what the tree of an atom type or an element type contains
+abbrev pub content_type : Ty → Ty
+content_type empty = empty
+content_type (atom k) = empty
+content_type (element n t) = t
+content_type (any_element t) = t
+content_type (seq t u) = empty
+content_type (alt t u) = empty
+content_type (star t) = empty
+content_type (named x) = empty
 
 -- Types defs g o: the goal is typed with the outcome. Parts are typed from left to right, and the
 -- first fault is the outcome
@@ -137,13 +155,28 @@ pub data Types (defs : Definitions) : Goal → Outcome → Type 0 where
   right_of_alike : {Γ : Context} {at : Span} {q r : Query} {t : Ty} {f : Fault} →
       Types defs (of_query Γ q) (typed t) → Types defs (of_query Γ r) (faulty f) →
       Types defs (of_query Γ (alike at q r)) (faulty f)
+  -- whether one number is less than another is a truth value, where both are numbers
+  of_less : {Γ : Context} {at : Span} {q r : Query} {t u : Ty} →
+      Types defs (of_query Γ q) (typed t) → Included defs t (atom kind.Int) →
+      Types defs (of_query Γ r) (typed u) → Included defs u (atom kind.Int) →
+      Types defs (of_query Γ (less at q r)) (typed (atom kind.Bool))
+  left_of_less : {Γ : Context} {at : Span} {q r : Query} {f : Fault} →
+      Types defs (of_query Γ q) (faulty f) → Types defs (of_query Γ (less at q r)) (faulty f)
+  left_no_number : {Γ : Context} {at : Span} {q r : Query} {t : Ty} →
+      (v : Plain) → Types defs (of_query Γ q) (typed t) → Member defs v t →
+      ¬ (Member defs v (atom kind.Int)) →
+      Types defs (of_query Γ (less at q r)) (faulty (not_int (place_of q) t (atom kind.Int)))
+  right_of_less : {Γ : Context} {at : Span} {q r : Query} {t : Ty} {f : Fault} →
+      Types defs (of_query Γ q) (typed t) → Included defs t (atom kind.Int) →
+      Types defs (of_query Γ r) (faulty f) → Types defs (of_query Γ (less at q r)) (faulty f)
+  right_no_number : {Γ : Context} {at : Span} {q r : Query} {t u : Ty} →
+      (v : Plain) → Types defs (of_query Γ q) (typed t) → Included defs t (atom kind.Int) →
+      Types defs (of_query Γ r) (typed u) → Member defs v u → ¬ (Member defs v (atom kind.Int)) →
+      Types defs (of_query Γ (less at q r)) (faulty (not_int (place_of r) u (atom kind.Int)))
   -- the tree of a variable contains what its type of one tree says, an atom nothing
-  of_child : {Γ : Context} {at : Span} {n : ℕ} {x : Var} {t u : Ty} →
-      found Γ x ≡ Some t → Single defs t (element n u) →
-      Types defs (of_query Γ (child at x)) (typed u)
-  of_atom_child : {Γ : Context} {at : Span} {x : Var} {t : Ty} {k : AtomKind} →
-      found Γ x ≡ Some t → Single defs t (atom k) →
-      Types defs (of_query Γ (child at x)) (typed empty)
+  of_child : {Γ : Context} {at : Span} {x : Var} {t s : Ty} →
+      found Γ x ≡ Some t → Single defs t s →
+      Types defs (of_query Γ (child at x)) (typed (content_type s))
   of_many_child : {Γ : Context} {at : Span} {x : Var} {t : Ty} →
       found Γ x ≡ Some t → IsNotSingle defs t →
       Types defs (of_query Γ (child at x)) (faulty (not_single at.from))

@@ -4,3 +4,4 @@ pub mod WalkLaws
 pub mod Work
 pub mod Walking
 pub mod TurnLaws
+pub mod WalkLabels

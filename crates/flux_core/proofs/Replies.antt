@@ -5,25 +5,26 @@ use Rattle.flux_trees.specs.Draft.{Draft}
 use Rattle.flux_schema.specs.Ty.{Ty, size, height, IsWithinLimits}
 use Rattle.flux_schema.specs.Definitions.{Definitions, body_of}
 use Rattle.flux_types.specs.Kept.{AreKept}
-use Rattle.flux_calculus.specs.Fault.{Fault, too_large, not_bool, not_empty, bad_argument, bad_focus, bad_body, bad_output}
+use Rattle.flux_calculus.specs.Fault.{Fault, too_large, not_bool, not_int, not_empty, bad_argument, bad_focus, bad_body, bad_output}
 use Rattle.flux_calculus.specs.Typing.{Outcome, typed, faulty, is_within, concluded}
 use Rattle.flux_core.specs.declared.fault.KindFault.{KindFault}
-use Rattle.flux_core.specs.declared.fault.KindFault.TheVariants.{UnknownVar, NotSingle, NotElement, NotEmpty, NotBool, BadArgument, BadFocus, BadBody, BadOutput, TypeTooLarge, Memory}
+use Rattle.flux_core.specs.declared.fault.KindFault.TheVariants.{UnknownVar, NotSingle, NotElement, NotEmpty, NotBool, NotInt, BadArgument, BadFocus, BadBody, BadOutput, TypeTooLarge, Memory}
 use Rattle.flux_core.specs.declared.measured.Measured.{Measured}
-use Rattle.flux_core.specs.Faults.{IsShown, IsFault, IsUsable}
+use Rattle.flux_core.specs.Faults.{IsShown, ShowsNothing, IsFault, IsUsable}
 use Rattle.flux_core.specs.Answers.{IsAnswer, IsConclusion}
 
-module _ (defs : Definitions) where
-  shown_carried : (P Q : Outcome → Type 0) (fault : Ty → Ty → Fault) (shown : Draft (Unit {0})) → ((f : Fault) → P (faulty f) → Q (faulty f)) → IsShown defs P fault shown → IsShown defs Q fault shown
+module _ (S : Ty → Ty → Draft (Unit {0}) → Type 0) where
+  shown_carried : (P Q : Outcome → Type 0) (fault : Ty → Ty → Fault) (shown : Draft (Unit {0})) → ((f : Fault) → P (faulty f) → Q (faulty f)) → IsShown S P fault shown → IsShown S Q fault shown
   shown_carried P Q fault shown g h = (h.0, h.1, g _ h.2, h.3)
 
   -- a fault of one goal is one of another
-  pub fault_carried : (P Q : Outcome → Type 0) (e : KindFault) → ((f : Fault) → P (faulty f) → Q (faulty f)) → IsFault defs P e → IsFault defs Q e
+  pub fault_carried : (P Q : Outcome → Type 0) (e : KindFault) → ((f : Fault) → P (faulty f) → Q (faulty f)) → IsFault S P e → IsFault S Q e
   fault_carried P Q (UnknownVar place) g h = g _ h
   fault_carried P Q (NotSingle place) g h = g _ h
   fault_carried P Q (NotElement place) g h = g _ h
   fault_carried P Q (NotEmpty place shown) g h = shown_carried P Q (not_empty place) shown g h
   fault_carried P Q (NotBool place shown) g h = shown_carried P Q (not_bool place) shown g h
+  fault_carried P Q (NotInt place shown) g h = shown_carried P Q (not_int place) shown g h
   fault_carried P Q (BadArgument place shown) g h = shown_carried P Q (bad_argument place) shown g h
   fault_carried P Q (BadFocus place shown) g h = shown_carried P Q (bad_focus place) shown g h
   fault_carried P Q (BadBody place shown) g h = shown_carried P Q (bad_body place) shown g h
@@ -32,43 +33,44 @@ module _ (defs : Definitions) where
   fault_carried P Q (Memory error) g h = tt
 
   -- an answer for one goal is one for another
-  pub answer_carried : (P Q : Outcome → Type 0) (r : Result Measured KindFault) → ((o : Outcome) → P o → Q o) → IsAnswer defs P r → IsAnswer defs Q r
+  pub answer_carried : (P Q : Outcome → Type 0) (r : Result Measured KindFault) → ((o : Outcome) → P o → Q o) → IsAnswer S P r → IsAnswer S Q r
   answer_carried P Q (Ok made) g h = g _ h
   answer_carried P Q (Err e) g h = fault_carried P Q e (λ f. g (faulty f)) h
 
   -- a fault that is passed on
-  pub passed_on : (P Q : Outcome → Type 0) (e : KindFault) (r : Result Measured KindFault) → ((f : Fault) → P (faulty f) → Q (faulty f)) → IsFault defs P e → IsErrAnd r (λ y. y ≡ e) → IsAnswer defs Q r
+  pub passed_on : (P Q : Outcome → Type 0) (e : KindFault) (r : Result Measured KindFault) → ((f : Fault) → P (faulty f) → Q (faulty f)) → IsFault S P e → IsErrAnd r (λ y. y ≡ e) → IsAnswer S Q r
   passed_on P Q e (Ok made) g h i = absurd i
-  passed_on P Q e (Err y) g h i = let R : KindFault → Type 0 = λ y. IsFault defs Q y in subst R (sym i) (fault_carried P Q e g h)
+  passed_on P Q e (Err y) g h i = let R : KindFault → Type 0 = λ y. IsFault S Q y in subst R (sym i) (fault_carried P Q e g h)
 
 -- ---- conclusions
 
-conclusion_by : (b : Bool) (at : ℕ) (t : Ty) (f : Fault) → (if b then typed t else faulty (too_large at)) ≡ faulty f → f ≡ too_large at
-conclusion_by true at t f e = cc
-conclusion_by false at t f e = cc
+nothing_shown : (P : Outcome → Type 0) (fault : Ty → Ty → Fault) (shown : Draft (Unit {0})) {A : Type 0} → IsShown ShowsNothing P fault shown → A
+nothing_shown P fault shown h = absurd h.3
 
--- the fault of a conclusion is that its type is too large
-pub conclusion_fault : (at : ℕ) (t : Ty) (f : Fault) → concluded at t ≡ faulty f → f ≡ too_large at
-conclusion_fault at t f e = conclusion_by (is_within t) at t f e
+-- a fault without a forest, where one may be shown
+pub large_carried : (S : Ty → Ty → Draft (Unit {0}) → Type 0) (P Q : Outcome → Type 0) (e : KindFault) → ((f : Fault) → P (faulty f) → Q (faulty f)) → IsFault ShowsNothing P e → IsFault S Q e
+large_carried S P Q (UnknownVar place) g h = g _ h
+large_carried S P Q (NotSingle place) g h = g _ h
+large_carried S P Q (NotElement place) g h = g _ h
+large_carried S P Q (NotEmpty place shown) g h = nothing_shown P (not_empty place) shown h
+large_carried S P Q (NotBool place shown) g h = nothing_shown P (not_bool place) shown h
+large_carried S P Q (NotInt place shown) g h = nothing_shown P (not_int place) shown h
+large_carried S P Q (BadArgument place shown) g h = nothing_shown P (bad_argument place) shown h
+large_carried S P Q (BadFocus place shown) g h = nothing_shown P (bad_focus place) shown h
+large_carried S P Q (BadBody place shown) g h = nothing_shown P (bad_body place) shown h
+large_carried S P Q (BadOutput place shown) g h = nothing_shown P (bad_output place) shown h
+large_carried S P Q (TypeTooLarge place) g h = g _ h
+large_carried S P Q (Memory error) g h = tt
 
--- a fault of which each is that a type is too large, under other definitions
-pub large_carried : (defs defs' : Definitions) (P Q : Outcome → Type 0) (at : ℕ) (e : KindFault) → ((f : Fault) → P (faulty f) → f ≡ too_large at) → ((f : Fault) → P (faulty f) → Q (faulty f)) → IsFault defs P e → IsFault defs' Q e
-large_carried defs defs' P Q at (UnknownVar place) l g h = g _ h
-large_carried defs defs' P Q at (NotSingle place) l g h = g _ h
-large_carried defs defs' P Q at (NotElement place) l g h = g _ h
-large_carried defs defs' P Q at (NotEmpty place shown) l g h = let e = l _ h.2 in cc
-large_carried defs defs' P Q at (NotBool place shown) l g h = let e = l _ h.2 in cc
-large_carried defs defs' P Q at (BadArgument place shown) l g h = let e = l _ h.2 in cc
-large_carried defs defs' P Q at (BadFocus place shown) l g h = let e = l _ h.2 in cc
-large_carried defs defs' P Q at (BadBody place shown) l g h = let e = l _ h.2 in cc
-large_carried defs defs' P Q at (BadOutput place shown) l g h = let e = l _ h.2 in cc
-large_carried defs defs' P Q at (TypeTooLarge place) l g h = g _ h
-large_carried defs defs' P Q at (Memory error) l g h = tt
+-- an answer that shows no forest, where one may be shown
+pub answer_shown : (S : Ty → Ty → Draft (Unit {0}) → Type 0) (P : Outcome → Type 0) (r : Result Measured KindFault) → IsAnswer ShowsNothing P r → IsAnswer S P r
+answer_shown S P (Ok made) h = h
+answer_shown S P (Err e) h = large_carried S P P e (λ f m. m) h
 
 -- a conclusion is what comes
-pub from_conclusion : (defs : Definitions) (Q : Outcome → Type 0) (at : ℕ) (t : Ty) (r : Result Measured KindFault) → ((o : Outcome) → concluded at t ≡ o → Q o) → IsConclusion at t r → IsAnswer defs Q r
-from_conclusion defs Q at t (Ok made) g h = g _ h
-from_conclusion defs Q at t (Err e) g h = large_carried [] defs (λ o. concluded at t ≡ o) Q at e (conclusion_fault at t) (λ f. g (faulty f)) h
+pub from_conclusion : (S : Ty → Ty → Draft (Unit {0}) → Type 0) (Q : Outcome → Type 0) (at : ℕ) (t : Ty) (r : Result Measured KindFault) → ((o : Outcome) → concluded at t ≡ o → Q o) → IsConclusion at t r → IsAnswer S Q r
+from_conclusion S Q at t (Ok made) g h = g _ h
+from_conclusion S Q at t (Err e) g h = large_carried S (λ o. concluded at t ≡ o) Q e (λ f. g (faulty f)) h
 
 within_by : (b : Bool) (at : ℕ) (t : Ty) → b ≡ true → (if b then typed t else faulty (too_large at)) ≡ typed t
 within_by true at t e = refl

@@ -1,6 +1,7 @@
 -- What the turns of a walk lead to.
 use Rattle.std.proofs.Common.{◌≡◌, ◌<◌, ◌+◌, ℕ, List, [], Result, Ok, Err, IsErrAnd, sym, subst, arith}
-use Rattle.flux_schema.specs.Ty.{Ty, empty, atom, element, seq, alt, star, named, IsWithinLimits}
+use Rattle.flux_trees.specs.Draft.{Draft}
+use Rattle.flux_schema.specs.Ty.{Ty, empty, atom, element, any_element, seq, alt, star, named, IsWithinLimits}
 use Rattle.flux_schema.specs.Definitions.{Definitions}
 use Rattle.flux_types.specs.declared.ty.Ty.{Ty as Tree}
 use Rattle.flux_types.specs.Kept.{AreKept}
@@ -10,11 +11,11 @@ use Rattle.flux_core.specs.declared.fault.KindFault.{KindFault}
 use Rattle.flux_core.specs.declared.measured.Measured.{Measured}
 use Rattle.flux_core.specs.declared.walk.Turn.{Turn}
 use Rattle.flux_core.specs.declared.walk.Turn.TheVariants.{At, Over}
-use Rattle.flux_core.specs.Faults.{IsFault, IsUsable}
+use Rattle.flux_core.specs.Faults.{ShowsNothing, IsFault, IsUsable}
 use Rattle.flux_core.specs.Answers.{IsAnswer}
 use Rattle.flux_core.specs.Map.{Mapped}
 use Rattle.flux_core.specs.Walk.{Frame, Position, before, behind, IsTurn}
-use Rattle.flux_core.proofs.Replies.{passed_on}
+use Rattle.flux_core.proofs.Replies.{passed_on, large_carried}
 use Rattle.flux_core.proofs.WalkLaws.{Leads, leads_first, leads_on, leads_behind, leads_end, leads_fault, walk_fault}
 use Rattle.flux_core.proofs.Work.{position_work, walks_fewer}
 
@@ -40,35 +41,42 @@ module _ (defs : Definitions) (R : Ty → Outcome → Type 0) (at : ℕ) (whole 
       let P : List Frame → Type 0 = λ gs. IsTurn defs at (before gs whole) fs (Ok turn) in
       turn_leads (before [] whole) fs turn (leads_first defs R at whole) (subst P g (turn_as defs' at' (before gs whole) fs (Ok turn) e f h))
 
-  pub first_fault : (defs' : Definitions) (at' : ℕ) (gs fs : List Frame) (e : KindFault) (r : Result Measured KindFault) → defs' ≡ defs → at' ≡ at → gs ≡ [] → IsTurn defs' at' (before gs whole) fs (Err e) → IsErrAnd r (λ y. y ≡ e) → IsAnswer defs (Mapped defs R at whole) r
-  first_fault defs' at' gs fs e r i f g h j =
-      let P : List Frame → Type 0 = λ gs. IsTurn defs at (before gs whole) fs (Err e) in
-      let Q : Outcome → Type 0 = λ o. Mapped defs R at whole o in
-      passed_on defs Q Q e r (λ f m. m) (walk_fault defs R at whole (before [] whole) e (leads_first defs R at whole) (subst P g (turn_as defs' at' (before gs whole) fs (Err e) i f h))) j
-
   -- the turn behind a tree that became a type
   pub next_leads : (defs' : Definitions) (at' : ℕ) (gs fs : List Frame) (a u : Ty) (turn : Turn) → defs' ≡ defs → at' ≡ at → IsAtomic a → Leads defs R at whole (before gs a) → R a (typed u) → IsWithinLimits u → IsTurn defs' at' (behind gs u) fs (Ok turn) → TurnLeads fs turn
   next_leads defs' at' gs fs a u turn e f i l r limits h =
       turn_leads (behind gs u) fs turn (leads_behind defs R at whole gs a u l i r limits) (turn_as defs' at' (behind gs u) fs (Ok turn) e f h)
-
-  pub next_fault : (defs' : Definitions) (at' : ℕ) (gs fs : List Frame) (a u : Ty) (e : KindFault) (r : Result Measured KindFault) → defs' ≡ defs → at' ≡ at → IsAtomic a → Leads defs R at whole (before gs a) → R a (typed u) → IsWithinLimits u → IsTurn defs' at' (behind gs u) fs (Err e) → IsErrAnd r (λ y. y ≡ e)
-      → IsAnswer defs (Mapped defs R at whole) r
-  next_fault defs' at' gs fs a u e r i f t l s limits h j =
-      let Q : Outcome → Type 0 = λ o. Mapped defs R at whole o in
-      passed_on defs Q Q e r (λ f m. m) (walk_fault defs R at whole (behind gs u) e (leads_behind defs R at whole gs a u l t s limits) (turn_as defs' at' (behind gs u) fs (Err e) i f h)) j
-
-  -- a fault at a tree
-  pub tree_fault : (gs : List Frame) (a : Ty) (e : KindFault) (r : Result Measured KindFault) → IsAtomic a → Leads defs R at whole (before gs a) → IsFault defs (R a) e → IsErrAnd r (λ y. y ≡ e) → IsAnswer defs (Mapped defs R at whole) r
-  tree_fault gs a e r i l h j =
-      let P : Outcome → Type 0 = λ o. R a o in
-      let Q : Outcome → Type 0 = λ o. Mapped defs R at whole o in
-      passed_on defs P Q e r (λ f d. leads_fault defs R at whole gs a f l i d) h j
 
   pub turn_at : (fs : List Frame) (turn : Turn) (a : Tree) → turn ≡ At a → TurnLeads fs turn → TurnLeads fs (At a)
   turn_at fs turn a e h = let P : Turn → Type 0 = λ t. TurnLeads fs t in subst P e h
 
   pub turn_over : (fs : List Frame) (turn : Turn) (m : Measured) → turn ≡ Over m → TurnLeads fs turn → Mapped defs R at whole (typed (ty_of m.ty.value))
   turn_over fs turn m e h = let P : Turn → Type 0 = λ t. TurnLeads fs t in leads_end defs R at whole (ty_of m.ty.value) (subst P e h)
+
+-- ---- faults, where S says which forests show one
+
+module _ (S : Ty → Ty → Draft (Unit {0}) → Type 0) (defs : Definitions) (R : Ty → Outcome → Type 0) (at : ℕ) (whole : Ty) where
+  -- a fault of the walk is one of the map
+  from_walk : (e : KindFault) (r : Result Measured KindFault) → IsFault ShowsNothing (λ o. Mapped defs R at whole o) e → IsErrAnd r (λ y. y ≡ e) → IsAnswer S (Mapped defs R at whole) r
+  from_walk e r h i =
+      let Q : Outcome → Type 0 = λ o. Mapped defs R at whole o in
+      passed_on S Q Q e r (λ f m. m) (large_carried S Q Q e (λ f m. m) h) i
+
+  pub first_fault : (defs' : Definitions) (at' : ℕ) (gs fs : List Frame) (e : KindFault) (r : Result Measured KindFault) → defs' ≡ defs → at' ≡ at → gs ≡ [] → IsTurn defs' at' (before gs whole) fs (Err e) → IsErrAnd r (λ y. y ≡ e) → IsAnswer S (Mapped defs R at whole) r
+  first_fault defs' at' gs fs e r i f g h j =
+      let P : List Frame → Type 0 = λ gs. IsTurn defs at (before gs whole) fs (Err e) in
+      from_walk e r (walk_fault defs R at whole (before [] whole) e (leads_first defs R at whole) (subst P g (turn_as defs R at whole defs' at' (before gs whole) fs (Err e) i f h))) j
+
+  pub next_fault : (defs' : Definitions) (at' : ℕ) (gs fs : List Frame) (a u : Ty) (e : KindFault) (r : Result Measured KindFault) → defs' ≡ defs → at' ≡ at → IsAtomic a → Leads defs R at whole (before gs a) → R a (typed u) → IsWithinLimits u → IsTurn defs' at' (behind gs u) fs (Err e) → IsErrAnd r (λ y. y ≡ e)
+      → IsAnswer S (Mapped defs R at whole) r
+  next_fault defs' at' gs fs a u e r i f t l s limits h j =
+      from_walk e r (walk_fault defs R at whole (behind gs u) e (leads_behind defs R at whole gs a u l t s limits) (turn_as defs R at whole defs' at' (behind gs u) fs (Err e) i f h)) j
+
+  -- a fault at a tree
+  pub tree_fault : (gs : List Frame) (a : Ty) (e : KindFault) (r : Result Measured KindFault) → IsAtomic a → Leads defs R at whole (before gs a) → IsFault S (R a) e → IsErrAnd r (λ y. y ≡ e) → IsAnswer S (Mapped defs R at whole) r
+  tree_fault gs a e r i l h j =
+      let P : Outcome → Type 0 = λ o. R a o in
+      let Q : Outcome → Type 0 = λ o. Mapped defs R at whole o in
+      passed_on S P Q e r (λ f d. leads_fault defs R at whole gs a f l i d) h j
 
 -- ---- fewer steps
 
@@ -81,6 +89,7 @@ tree_work : (defs : Definitions) (fs : List Frame) (a u : Ty) → IsAtomic a →
 tree_work defs fs empty u i = absurd i
 tree_work defs fs (atom k) u i = omega arith
 tree_work defs fs (element n t) u i = omega arith
+tree_work defs fs (any_element t) u i = omega arith
 tree_work defs fs (seq t w) u i = absurd i
 tree_work defs fs (alt t w) u i = absurd i
 tree_work defs fs (star t) u i = absurd i

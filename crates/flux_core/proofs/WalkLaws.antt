@@ -5,7 +5,7 @@ use Rattle.flux_schema.specs.Definitions.{Definitions}
 use Rattle.flux_calculus.specs.Fault.{Fault}
 use Rattle.flux_calculus.specs.Typing.{Outcome, typed, faulty, concluded, IsAtomic}
 use Rattle.flux_core.specs.declared.fault.KindFault.{KindFault}
-use Rattle.flux_core.specs.Faults.{IsFault}
+use Rattle.flux_core.specs.Faults.{ShowsNothing, IsFault}
 use Rattle.flux_core.specs.Map.{Mapped, of_tree, fault_of_tree, of_empty, of_seq, left_of_seq, right_of_seq, of_alt, left_of_alt, right_of_alt, of_star, inside_of_star, of_name}
 use Rattle.flux_core.specs.Walk.{Frame, first_of_seq, second_of_seq, first_of_alt, second_of_alt, inside_star, Position, before, behind, Turns, Concludes, Goes, into_seq, into_alt, into_star, to_body, past_empty, to_second, out_of, Walks, stays, goes_on, ComesTo}
 use Rattle.flux_core.proofs.Replies.{concluded_within, fault_carried}
@@ -140,5 +140,5 @@ module _ (defs : Definitions) (R : Ty → Outcome → Type 0) (at : ℕ) where
       l (faulty f) (walks_back c.walk (faulty f) (out_back c.frames c.frame c.part c.whole (faulty f) (faulty f) c.concludes c.outcome (through_fault c.frames f)))
 
   -- a fault of the walk is one of the map
-  pub walk_fault : (whole : Ty) (p : Position) (e : KindFault) → Leads whole p → IsFault defs (ComesTo defs at p) e → IsFault defs (Map whole) e
-  walk_fault whole p e l h = fault_carried defs (ComesTo defs at p) (Map whole) e (λ f c. leads_refused whole p f l c) h
+  pub walk_fault : (whole : Ty) (p : Position) (e : KindFault) → Leads whole p → IsFault ShowsNothing (ComesTo defs at p) e → IsFault ShowsNothing (Map whole) e
+  walk_fault whole p e l h = fault_carried ShowsNothing (ComesTo defs at p) (Map whole) e (λ f c. leads_refused whole p f l c) h

@@ -5,10 +5,10 @@ use Rattle.flux_atom.specs.declared.atom.AtomKind.{AtomKind}
 use Rattle.flux_schema.specs.Ty.{Ty, empty, seq, alt, star, named, IsWithinLimits}
 use Rattle.flux_schema.specs.Definitions.{Definitions, body_of}
 use Rattle.flux_types.specs.declared.ty.Ty.{Ty as Tree}
-use Rattle.flux_types.specs.declared.ty.Ty.TheVariants.{Empty, Atom, Elem, Seq, Alt, Star, Named}
+use Rattle.flux_types.specs.declared.ty.Ty.TheVariants.{Empty, Atom, Elem, AnyElem, Seq, Alt, Star, Named}
 use Rattle.flux_types.specs.Kept.{AreKept}
 use Rattle.flux_types.specs.Read.{ty_of}
-use Rattle.flux_types.proofs.Variants.{of_empty, of_atom, of_elem, of_seq, of_alt, of_star, of_named}
+use Rattle.flux_types.proofs.Variants.{of_empty, of_atom, of_elem, of_any, of_seq, of_alt, of_star, of_named}
 use Rattle.flux_calculus.specs.Typing.{IsAtomic, concluded}
 use Rattle.flux_core.specs.declared.walk.Frame.{Frame as Kept}
 use Rattle.flux_core.specs.declared.walk.Frame.TheVariants.{SeqFirst, AltFirst, InStar}
@@ -18,9 +18,9 @@ use Rattle.flux_core.specs.declared.walk.Turn.{Turn}
 use Rattle.flux_core.specs.declared.walk.Turn.TheVariants.{At, Over}
 use Rattle.flux_core.specs.declared.walk.Up.{Up}
 use Rattle.flux_core.specs.declared.walk.Up.TheVariants.{Next, Whole}
-use Rattle.flux_core.specs.Faults.{IsFault, IsUsable}
+use Rattle.flux_core.specs.Faults.{ShowsNothing, IsFault, IsUsable}
 use Rattle.flux_core.specs.Walk.{Frame, first_of_seq, second_of_seq, first_of_alt, second_of_alt, inside_star, Position, before, behind, Turns, Concludes, into_seq, into_alt, into_star, to_body, past_empty, to_second, out_of, Walks, goes_on, ComesTo, ReachesTree, AreToBeUsed, GoesDown, GoesUp, IsTurn, frame_of, frames_of}
-use Rattle.flux_core.proofs.Replies.{body_usable, conclusion_fault, fault_carried, large_carried}
+use Rattle.flux_core.proofs.Replies.{body_usable, fault_carried, large_carried}
 use Rattle.flux_core.proofs.WalkLaws.{walks_on}
 use Rattle.flux_core.proofs.Work.{type_work, body_less, position_work, turns_fewer, out_fewer, walks_fewer}
 
@@ -99,6 +99,9 @@ module _ (defs : Definitions) (p : Position) where
   pub at_element : (fs : List Frame) (x : Tree) (n : ℕ) (t : Tree) → x ≡ Elem n t → DownAt fs (ty_of x) → ReachesTree defs p fs (ty_of (Elem n t))
   at_element fs x n t e d = let P : Ty → Type 0 = λ w. IsAtomic w in reached fs (ty_of x) _ (ap ty_of e) (subst P (sym (of_elem x n t t e refl)) tt) d
 
+  pub at_any : (fs : List Frame) (x : Tree) (t : Tree) → x ≡ AnyElem t → DownAt fs (ty_of x) → ReachesTree defs p fs (ty_of (AnyElem t))
+  at_any fs x t e d = let P : Ty → Type 0 = λ w. IsAtomic w in reached fs (ty_of x) _ (ap ty_of e) (subst P (sym (of_any x t t e refl)) tt) d
+
 -- ---- smaller
 
 module _ (defs : Definitions) where
@@ -171,11 +174,10 @@ module _ (defs : Definitions) where
 
   -- a conclusion that is refused
   pub refused_here : (at : ℕ) (p : Position) (ks ks' : List Kept) (k : Kept) (u : Ty) (e : KindFault) → ks ≡ ks' ++ k ∷ [] → Upward p (frames_of ks) u
-      → IsFault [] (λ o. (t : Ty) × Concludes (frame_of k) u t × (concluded at t ≡ o)) e → IsFault defs (ComesTo defs at p) e
+      → IsFault ShowsNothing (λ o. (t : Ty) × Concludes (frame_of k) u t × (concluded at t ≡ o)) e → IsFault ShowsNothing (ComesTo defs at p) e
   refused_here at p ks ks' k u e is h f =
       let here = upward_at p _ _ u (sym (frames_pushed ks' ks k is)) h in
-      large_carried [] defs (λ o. (t : Ty) × Concludes (frame_of k) u t × (concluded at t ≡ o)) (ComesTo defs at p) at e
-      (λ f c. conclusion_fault at c.0 f c.2)
+      large_carried ShowsNothing (λ o. (t : Ty) × Concludes (frame_of k) u t × (concluded at t ≡ o)) (ComesTo defs at p) e
       (λ f c. record { frame = frame_of k; frames = frames_of ks'; part = u; whole = c.0; walk = here.walk; concludes = c.1; outcome = c.2 }) f
 
   -- ---- answers
@@ -192,18 +194,18 @@ module _ (defs : Definitions) where
   pub down_none : (p : Position) (fs : List Frame) (o : Option Tree) → o ≡ None → GoesDown defs p fs o → Walks defs p (behind fs empty)
   down_none p fs o e h = let P : Option Tree → Type 0 = λ o. GoesDown defs p fs o in subst P e h
 
-  pub turn_fault : (at at' : ℕ) (p : Position) (fs : List Frame) (e : KindFault) (r : Result Turn KindFault) → at ≡ at' → IsErrAnd r (λ y. y ≡ e) → IsFault defs (ComesTo defs at p) e → IsTurn defs at' p fs r
+  pub turn_fault : (at at' : ℕ) (p : Position) (fs : List Frame) (e : KindFault) (r : Result Turn KindFault) → at ≡ at' → IsErrAnd r (λ y. y ≡ e) → IsFault ShowsNothing (ComesTo defs at p) e → IsTurn defs at' p fs r
   turn_fault at at' p fs e (Ok x) s i h = absurd i
   turn_fault at at' p fs e (Err y) s i h =
-      let P : ℕ → Type 0 = λ n. IsFault defs (ComesTo defs n p) e in
-      let Q : KindFault → Type 0 = λ y. IsFault defs (ComesTo defs at' p) y in
+      let P : ℕ → Type 0 = λ n. IsFault ShowsNothing (ComesTo defs n p) e in
+      let Q : KindFault → Type 0 = λ y. IsFault ShowsNothing (ComesTo defs at' p) y in
       subst Q (sym i) (subst P s h)
 
   turn_from : (at : ℕ) (p q : Position) (fs : List Frame) (r : Result Turn KindFault) → Walks defs p q → IsTurn defs at q fs r → IsTurn defs at p fs r
   turn_from at p q fs (Ok (At a)) w h = record { atomic = h.atomic; usable = h.usable; walk = walks_on w h.walk }
   turn_from at p q fs (Ok (Over m)) w h = walks_on w h
   turn_from at p q fs (Err e) w h =
-      fault_carried defs (ComesTo defs at q) (ComesTo defs at p) e
+      fault_carried ShowsNothing (ComesTo defs at q) (ComesTo defs at p) e
       (λ f c. record { frame = c.frame; frames = c.frames; part = c.part; whole = c.whole; walk = walks_on w c.walk; concludes = c.concludes; outcome = c.outcome }) h
 
   -- a turn behind the empty type

@@ -1,7 +1,7 @@
 -- How much a walk has still to do.
 use Rattle.std.proofs.Common.{◌≡◌, ◌<◌, ◌≤◌, ◌+◌, ◌*◌, ℕ, zero, suc, List, [], ◌∷◌, Some, refl, ap, inl, inr, arith, add-mul}
 use Rattle.std.proofs.Math.Nat.{one-mul, mul-le-mul_right}
-use Rattle.flux_schema.specs.Ty.{Ty, empty, atom, element, seq, alt, star, named, size}
+use Rattle.flux_schema.specs.Ty.{Ty, empty, atom, element, any_element, seq, alt, star, named, size}
 use Rattle.flux_schema.specs.Definitions.{Definitions, body_of, StandsIn}
 use Rattle.flux_schema.proofs.Ranks.{rank_of, rank-falls}
 use Rattle.flux_types.specs.Kept.{AreKept}
@@ -26,6 +26,7 @@ abbrev work : (ℕ → ℕ) → Ty → ℕ
 work f empty = 1
 work f (atom k) = 1
 work f (element n t) = 1
+work f (any_element t) = 1
 work f (seq t u) = work f t + work f u + 3
 work f (alt t u) = work f t + work f u + 3
 work f (star t) = work f t + 2
@@ -35,6 +36,7 @@ work-bound : (f : ℕ → ℕ) (m : ℕ) → 1 ≤ m → (t : Ty) → ((y : ℕ)
 work-bound f m h empty b = omega (arith, one-mul m, h)
 work-bound f m h (atom k) b = omega (arith, one-mul m, h)
 work-bound f m h (element n t) b = omega (arith, add-mul (size t) 1 m, one-mul m, h)
+work-bound f m h (any_element t) b = omega (arith, add-mul (size t) 1 m, one-mul m, h)
 work-bound f m h (seq t u) b = omega (arith, work-bound f m h t (λ y s. b y (inl s)), work-bound f m h u (λ y s. b y (inr s)), add-mul (size t + size u) 1 m, add-mul (size t) (size u) m, one-mul m, h)
 work-bound f m h (alt t u) b = omega (arith, work-bound f m h t (λ y s. b y (inl s)), work-bound f m h u (λ y s. b y (inr s)), add-mul (size t + size u) 1 m, add-mul (size t) (size u) m, one-mul m, h)
 work-bound f m h (star t) b = omega (arith, work-bound f m h t b, add-mul (size t) 1 m, one-mul m, h)

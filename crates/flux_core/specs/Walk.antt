@@ -13,7 +13,7 @@ use Rattle.flux_core.specs.declared.walk.Turn.TheVariants.{At, Over}
 use Rattle.flux_core.specs.declared.walk.Walk.{Walk}
 use Rattle.flux_core.specs.declared.walk.Up.{Up}
 use Rattle.flux_core.specs.declared.walk.Up.TheVariants.{Next, Whole}
-use Rattle.flux_core.specs.Faults.{IsFault, IsUsable}
+use Rattle.flux_core.specs.Faults.{ShowsNothing, IsFault, IsUsable}
 
 -- what stands round a part of a type: it is the first of a sequence or of a choice, whose second
 -- part is still to come; it is the second, and the first became a type; it is the part of a star
@@ -120,10 +120,10 @@ abbrev pub GoesUp : ℕ → Frame → Ty → Result Up KindFault → Type 0
 GoesUp at f u (Ok (Next frame t)) = Turns f u (frame_of frame) (ty_of t)
 GoesUp at f u (Ok (Whole made)) = Concludes f u (ty_of made.ty.value)
 GoesUp at f u (Err fault) =
-    IsFault [] (λ o. (t : Ty) × Concludes f u t × (concluded at t ≡ o)) fault
+    IsFault ShowsNothing (λ o. (t : Ty) × Concludes f u t × (concluded at t ≡ o)) fault
 
 -- a turn of a walk from a position: at a tree, at the end, or at a type that is too large
 abbrev pub IsTurn : Definitions → ℕ → Position → List Frame → Result Turn KindFault → Type 0
 IsTurn defs at p fs (Ok (At a)) = ReachesTree defs p fs (ty_of a)
 IsTurn defs at p fs (Ok (Over made)) = Walks defs p (behind [] (ty_of made.ty.value))
-IsTurn defs at p fs (Err fault) = IsFault defs (ComesTo defs at p) fault
+IsTurn defs at p fs (Err fault) = IsFault ShowsNothing (ComesTo defs at p) fault

@@ -1,7 +1,7 @@
 // Types that are concluded of others. Each is tested before it is made, and refused at a place
 // where it is over the limits.
 ghost use Rattle.std.specs.Prelude.{◌≡◌, IfOk};
-ghost use Rattle.flux_schema.specs.Ty.{empty, atom, element, seq, alt, star};
+ghost use Rattle.flux_schema.specs.Ty.{empty, atom, element, any_element, seq, alt, star};
 ghost use Rattle.flux_types.specs.Read.{ty_of};
 ghost use Rattle.flux_core.specs.Answers.{IsConclusion};
 
@@ -55,6 +55,20 @@ pub fn one_element(
     }
     let content = own(alloc, content)?;
     let ty = held(alloc, Ty::Elem(label, Boxed::new(alloc, content)?))?;
+    Ok(Measured { ty, nodes, levels })
+}
+
+/// An element type of any label, or TypeTooLarge at the place.
+pub fn any_one(alloc: Global, place: u32, content: Measured) -> Result<Measured, KindFault>
+    ensures { IsConclusion place (any_element (ty_of content.ty.value)) result }
+{
+    let nodes = content.nodes + 1;
+    let levels = content.levels + 1;
+    if nodes > MOST_NODES || levels > MOST_LEVELS {
+        return Err(KindFault::TypeTooLarge { place });
+    }
+    let content = own(alloc, content)?;
+    let ty = held(alloc, Ty::AnyElem(Boxed::new(alloc, content)?))?;
     Ok(Measured { ty, nodes, levels })
 }
 

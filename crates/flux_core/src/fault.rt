@@ -5,7 +5,8 @@ use std::alloc::AllocError;
 
 /// The first fault that typing meets. A place is where the text begins that is at fault, in bytes
 /// from the start of the script. A shown forest is whole: it is a member of the type that was
-/// found, and not of the type that was wanted.
+/// found, and not of the type that was wanted. Each of its labels is the decider's `other`, or
+/// stands in a definition or in one of the two types.
 #[derive(Drop)]
 pub enum KindFault {
     /// The variable isn't bound.
@@ -18,6 +19,8 @@ pub enum KindFault {
     NotEmpty { place: u32, shown: Forest },
     /// A condition isn't a truth value.
     NotBool { place: u32, shown: Forest },
+    /// A side of a comparison isn't a number.
+    NotInt { place: u32, shown: Forest },
     /// An argument isn't of the type of its parameter.
     BadArgument { place: u32, shown: Forest },
     /// A focus isn't of the type that a procedure is declared at.

@@ -11,7 +11,7 @@ mod measured;
 mod tests;
 mod walk;
 
-pub use conclude::{either, in_sequence, nothing, one_atom, one_element, repeated};
+pub use conclude::{any_one, either, in_sequence, nothing, one_atom, one_element, repeated};
 pub use fault::KindFault;
 pub use gamma::{Gamma, Param};
 pub use measured::{Measured, copied, measure, own};

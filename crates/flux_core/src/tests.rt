@@ -1,11 +1,12 @@
 // What no clause says: that calls succeed, with what one works out by hand.
 ghost use Rattle.std.specs.Prelude.{◌≡◌, ◌+◌, length, OnOk};
 
-use crate::{Gamma, Param, one_atom, own};
-use flux_atom::AtomKind;
+use crate::{Gamma, KindFault, Measured, Param, any_one, measure, one_atom, own};
+use flux_atom::{AtomKind, Boxed};
 use flux_calculus::Var;
-use flux_types::Ty;
-use std::alloc::AllocError;
+use flux_types::{Ty, height, size};
+use std::alloc::{AllocError, Global};
+use std::process::Abort;
 use std::test::Fail;
 
 fn is_atom(ty: Option<&Ty>, kind: AtomKind) -> bool {
@@ -47,5 +48,25 @@ fn a_type_that_is_shared(rt: HostRuntime) -> Result<(), Fail> {
     assert!(rt; is_atom(Some(&ty), AtomKind::Text));
     assert!(rt; is_atom(Some(other.ty.as_ref()), AtomKind::Text));
     assert!(rt; is_atom(gamma.get(Var::Made(0)), AtomKind::Text));
+    Ok(())
+}
+
+// string**..*, of `count` stars.
+fn stars(rt: &impl Abort, alloc: Global, count: u32) -> Result<Measured, AllocError> {
+    let mut ty = Ty::Atom(AtomKind::Text);
+    for _ in 0..count {
+        ty = Ty::Star(Boxed::new(alloc, ty)?);
+    }
+    assert!(rt; size(&ty) <= 65_536 && height(&ty) <= 500);
+    measure(alloc, ty)
+}
+
+#[test]
+fn an_element_of_any_label_at_the_limit(rt: HostRuntime) -> Result<(), Fail> {
+    let alloc = rt.alloc();
+    let highest = any_one(alloc, 3, stars(&rt, alloc, 498)?);
+    assert!(rt; matches!(highest, Ok(made) if made.levels == 500));
+    let over = any_one(alloc, 3, stars(&rt, alloc, 499)?);
+    assert!(rt; matches!(over, Err(KindFault::TypeTooLarge { place: 3 })));
     Ok(())
 }

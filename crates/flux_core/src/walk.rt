@@ -121,6 +121,7 @@ fn descend(frames: &mut Vec<Frame>, ty: Ty, defs: &Defs) -> Result<Option<Ty>, A
             Ty::Empty => return Ok(None),
             Ty::Atom(kind) => return Ok(Some(Ty::Atom(kind))),
             Ty::Elem(label, content) => return Ok(Some(Ty::Elem(label, content))),
+            Ty::AnyElem(content) => return Ok(Some(Ty::AnyElem(content))),
             Ty::Seq(first, second) => {
                 frames.push(Frame::SeqFirst(second.into_inner()))?;
                 first.into_inner()

@@ -3,7 +3,7 @@ use Rattle.std.proofs.Common.{◌≡◌, ◌≢◌, ℕ, List, [], ◌++◌, cod
 use Rattle.std.proofs.lemmas.List.{append-nil}
 use Rattle.std.specs.List.{flat_map}
 use Rattle.flux_atom.specs.declared.atom.Atom.{Atom}
-use Rattle.flux_atom.specs.declared.atom.Atom.TheVariants.{Bool as Truth, Text}
+use Rattle.flux_atom.specs.declared.atom.Atom.TheVariants.{Bool as Truth, Text, Int as Number}
 use Rattle.flux_atom.specs.Names.{name_text, IsTable}
 use Rattle.flux_atom.specs.Literal.{escaped, literal}
 use Rattle.flux_atom.specs.Spelling.{IsLiteral}
@@ -21,6 +21,7 @@ use Rattle.flux_doctext.proofs.TextLaws.{NamesLabel-label, NamesLabel-found}
 literal_spelled : (x : Atom) → IsProper x → IsLiteral (literal x) x
 literal_spelled (Truth b) proper = refl
 literal_spelled (Text t) proper = (flat_map escaped t, canonical_items t proper, refl)
+literal_spelled (Number z) proper = (proper, refl)
 
 module _ (names : List (List ℕ)) where
   atom_spelled : (x : Atom) → IsProper x → Spelled names tree (literal x) (leaf tt x nil)

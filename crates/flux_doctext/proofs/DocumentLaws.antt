@@ -6,6 +6,8 @@ use Rattle.std.specs.List.{AllPass}
 use Rattle.std.proofs.lemmas.List.Elements.{All-cons, All-head, All-tail}
 use Rattle.std.proofs.lemmas.List.{append-nil, take-append-drop, take-take, take_more, take_all, length-drop}
 use Rattle.flux_atom.specs.declared.atom.Atom.{Atom}
+use Rattle.flux_atom.specs.declared.atom.Atom.TheVariants.{Int as Number}
+use Rattle.flux_atom.specs.declared.number.NumberState.TheVariants.{Minus, Digits}
 use Rattle.flux_atom.specs.Names.{continues_name, IsName, IsTable}
 use Rattle.flux_atom.specs.TextSteps.{TextStep, on, closes, misfits, TextRead, text_step, no_text, read_on, and_read as and_text, read_text}
 use Rattle.flux_atom.proofs.TextLaws.{read_then}
@@ -13,18 +15,18 @@ use Rattle.flux_trees.specs.Hedge.{Plain, nil, leaf}
 use Rattle.flux_trees.specs.Draft.{done, begun, depth, add}
 use Rattle.flux_trees.proofs.DraftLaws.{depth-add}
 use Rattle.flux_doctext.specs.declared.reader.State.{State}
-use Rattle.flux_doctext.specs.declared.reader.State.TheVariants.{Content, Tree, Name, Label, Opened, Closed, Text, Behind}
+use Rattle.flux_doctext.specs.declared.reader.State.TheVariants.{Content, Tree, Name, Label, Opened, Closed, Text, Number as Numbered, Behind}
 use Rattle.flux_doctext.specs.Spells.{Spelled, whole, some, Spells, IsViable}
 use Rattle.flux_doctext.specs.Labels.{learnt}
 use Rattle.flux_doctext.specs.Documents.{IsDocument, IsNoDocument}
-use Rattle.flux_doctext.specs.Reading.{Shape, content, next, name, label, opened, closed, string, behind, Event, push, truth_of, sign_of, step, name_step, string_step, end_named, end_step, PlainDraft, draft_after, names_after, end_fits}
+use Rattle.flux_doctext.specs.Reading.{Shape, content, next, name, label, opened, closed, string, number, behind, Event, push, truth_of, sign_of, step, name_step, string_step, end_named, end_step, PlainDraft, draft_after, names_after, end_fits}
 use Rattle.flux_doctext.specs.declared.sign.Sign.TheVariants.{Letter, Digit}
 use Rattle.flux_doctext.proofs.Signs.{named_sign}
 use Rattle.flux_doctext.proofs.Runs.{and_fits, fits}
 use Rattle.flux_doctext.specs.Steps.{shape_of, IsSound, IsTaken, IsEnded, Passes}
 use Rattle.flux_doctext.proofs.ReadLaws.{spelled_fits, depth-draft_after}
 use Rattle.flux_doctext.proofs.SpelledLaws.{no_space}
-use Rattle.flux_doctext.proofs.StepLaws.{IsRead, IsKept, begun_more, step_kept, named_behind}
+use Rattle.flux_doctext.proofs.StepLaws.{IsRead, IsKept, begun_more, step_kept, named_behind, numbered_behind}
 use Rattle.flux_doctext.proofs.Written.{IsQuoted, Core}
 use Rattle.flux_doctext.proofs.WrittenLaws.{lifted}
 use Rattle.flux_doctext.proofs.ViableLaws.{read_viable}
@@ -190,6 +192,10 @@ ended names closed bytes d es w e shut =
 ended names behind bytes d es w e shut =
     let nothing_more : [] ≡ es = cc in
     subst (λ l. IsWhole names bytes (draft_after names l d)) nothing_more (whole_behind names bytes d w shut)
+ended names (number Minus) bytes d es w e shut = absurd cc
+ended names (number (Digits z)) bytes d es w e shut =
+    let pushed : push (Number z) ∷ [] ≡ es = cc in
+    subst (λ l. IsWhole names bytes (draft_after names l d)) pushed (whole_behind names bytes (add d (leaf tt (Number z) nil)) (numbered_behind names z bytes d w) (depth-add d (leaf tt (Number z) nil) ∙ shut))
 ended names (name text) bytes d es w e shut = by (truth_of text) refl e
   where
     by : (o : Option Atom) → truth_of text ≡ o → end_named o ≡ Some es → IsWhole names bytes (draft_after names es d)
@@ -259,10 +265,12 @@ module _ (old names : List (List ℕ)) (bytes : List ℕ) (i n : ℕ) (d : Plain
   passed_over (Name text) Opened has p = absurd p.1
   passed_over (Name text) Closed has p = absurd p.1
   passed_over (Name text) (Text r) has p = absurd p.1
+  passed_over (Name text) (Numbered at) has p = absurd p.1
   passed_over (Name text) Behind has p = absurd p.1
   passed_over (Label a) new has p = unpassed (Label a) new has p
   passed_over Opened new has p = unpassed Opened new has p
   passed_over Closed new has p = unpassed Closed new has p
+  passed_over (Numbered at) new has p = unpassed (Numbered at) new has p
   passed_over Behind new has p = unpassed Behind new has p
 
   pub run_passed : (state new : State) → HasPassed old names bytes i d state → Passes state (take (length bytes - i) (drop i bytes)) n new → HasPassed old names bytes (i + n) d new

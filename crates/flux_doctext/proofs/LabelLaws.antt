@@ -5,7 +5,10 @@ use Rattle.std.proofs.lemmas.Option.{slice_get_within}
 use Rattle.std.specs.Prelude.{IsSomeAnd}
 use Rattle.std.specs.List.{list_any}
 use Rattle.flux_atom.specs.declared.atom.Atom.{Atom}
-use Rattle.flux_atom.specs.declared.atom.Atom.TheVariants.{Bool as Truth, Text}
+use Rattle.flux_atom.specs.declared.atom.Atom.TheVariants.{Bool as Truth, Text, Int as Number}
+use Rattle.flux_atom.specs.declared.number.NumberState.{NumberState}
+use Rattle.flux_atom.specs.declared.number.NumberState.TheVariants.{Minus, Digits}
+use Rattle.flux_atom.specs.NumberSteps.{number_begin, number_step}
 use Rattle.flux_atom.specs.Names.{name_text, IsLabel, with_text}
 use Rattle.flux_atom.specs.Spelling.{IsLiteral}
 use Rattle.flux_atom.specs.TextSteps.{TextStep, on, closes, misfits, TextRead, text_step}
@@ -20,7 +23,7 @@ use Rattle.flux_doctext.specs.Spells.{Part, Spelled, none, some, nothing, someth
 use Rattle.flux_doctext.specs.Text.{NamesLabel, IsProper}
 use Rattle.flux_doctext.specs.Documents.{SpelledForestIsOverTable}
 use Rattle.flux_doctext.specs.Labels.{labels, learnt}
-use Rattle.flux_doctext.specs.Reading.{sign_of, Shape, content, next, name, label, opened, closed, string, behind, Event, learn, enter, push, leave, Step, told, close_step, content_step, tree_step, behind_step, label_step, closed_step, opened_step, named_step, name_step, string_step, truth_of, step, end_named, end_step, number_of, PlainDraft, draft_after, names_after}
+use Rattle.flux_doctext.specs.Reading.{sign_of, Shape, content, next, name, label, opened, closed, string, number, behind, Event, learn, enter, push, leave, Step, told, close_step, content_step, tree_step, behind_step, label_step, closed_step, opened_step, named_step, name_step, string_step, begin_step, numbered_step, digit_step, truth_of, step, end_named, end_step, number_of, PlainDraft, draft_after, names_after}
 use Rattle.flux_doctext.proofs.TextLaws.{slice_get-more, labels_within}
 use Rattle.flux_doctext.proofs.Drafts.{EachDraftLabel}
 use Rattle.flux_doctext.proofs.Written.{Ahead, first, further, Core}
@@ -45,6 +48,7 @@ spelled_labels (atom s spelled u x s_space u_space is split) = tt
 pub proper : (x : Atom) (spelled : List ℕ) → IsLiteral spelled x → IsProper x
 proper (Truth b) spelled is = tt
 proper (Text text) spelled is = items_utf8 is.0 text is.1
+proper (Number z) spelled is = is.0
 
 pub spelled_atoms : {names : List (List ℕ)} {part : Part} {bytes : List ℕ} {v : Plain} → Spelled names part bytes v → EachAtom IsProper v
 spelled_atoms (none s t u s_space t_space u_space split) = tt
@@ -83,6 +87,7 @@ core_labels names opened bytes h c =
 core_labels names closed bytes h c =
     subst (EachLabel (λ a. a < length names)) (sym c.1) tt
 core_labels names (string r) bytes h c = ahead_labels names c.front h c.ahead
+core_labels names (number at) bytes h c = ahead_labels names c.front h c.ahead
 core_labels names behind bytes h c = labels_within names h (spelled_labels c)
 
 read_labels : (names : List (List ℕ)) (s : Shape) (bytes : List ℕ) (d : PlainDraft) → IsRead names s bytes d → EachDraftLabel (length names) d
@@ -226,10 +231,15 @@ close_order : (n : ℕ) → InOrder [] (close_step n)
 close_order zero = tt
 close_order (suc n) = refl
 
+begin_order : (o : Option NumberState) → InOrder [] (begin_step o)
+begin_order None = tt
+begin_order (Some at) = refl
+
 tree_order : (stay : Shape) (b : ℕ) → [] ≡ pending stay → (s : Sign) → InOrder [] (tree_step stay b s)
 tree_order stay b e Space = e
 tree_order stay b e Quote = refl
 tree_order stay b e Letter = refl
+tree_order stay b e Digit = begin_order (number_begin b)
 tree_order stay b e _ = tt
 
 content_order : (n b : ℕ) (s : Sign) → InOrder [] (content_step n b s)
@@ -238,6 +248,7 @@ content_order n b LeftParen = refl
 content_order n b Space = refl
 content_order n b Quote = refl
 content_order n b Letter = refl
+content_order n b Digit = begin_order (number_begin b)
 content_order n b _ = tt
 
 opened_order : (s : Sign) → InOrder [] (opened_step s)
@@ -290,6 +301,14 @@ string_order r (on state added) = refl
 string_order r closes = refl
 string_order r misfits = tt
 
+numbered_order : (at : NumberState) (n : ℕ) (s : Sign) → InOrder [] (numbered_step at n s)
+numbered_order Minus n s = tt
+numbered_order (Digits z) n s = push_order (Number z) (behind_step n s) (behind_order n s)
+
+digit_order : (at : NumberState) (o : Option NumberState) (n : ℕ) (s : Sign) → InOrder [] (digit_step at o n s)
+digit_order at None n s = numbered_order at n s
+digit_order at (Some to) n s = refl
+
 step_order : (s : Shape) (n b : ℕ) → InOrder (pending s) (step s n b)
 step_order content n b = content_order n b (sign_of b)
 step_order next n b = tree_order next b refl (sign_of b)
@@ -298,6 +317,7 @@ step_order (label text) n b = label_order text (sign_of b)
 step_order opened n b = opened_order (sign_of b)
 step_order closed n b = closed_order n (sign_of b)
 step_order (string r) n b = string_order r (text_step r.0 b)
+step_order (number at) n b = digit_order at (number_step at b) n (sign_of b)
 step_order behind n b = behind_order n (sign_of b)
 
 -- the table has learnt the labels that are read
@@ -345,6 +365,10 @@ learnt_end old names closed d es has e =
 learnt_end old names behind d es has e =
     let none_more : [] ≡ es = cc in
     has ∙ ap (learnt old) (append-nil (draft_labels names d)) ∙ ap (λ l. learnt old (draft_labels names (draft_after names l d))) none_more
+learnt_end old names (number Minus) d es has e = absurd cc
+learnt_end old names (number (Digits z)) d es has e =
+    let pushed : push (Number z) ∷ [] ≡ es = cc in
+    has ∙ ap (learnt old) (append-nil (draft_labels names d) ∙ sym (draft_labels-push names d (Number z))) ∙ ap (λ l. learnt old (draft_labels names (draft_after names l d))) pushed
 learnt_end old names (name text) d es has e = by (truth_of text) e
   where
     by : (o : Option Atom) → end_named o ≡ Some es → names ≡ learnt old (draft_labels names (draft_after names es d))

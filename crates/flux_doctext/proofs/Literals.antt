@@ -1,4 +1,4 @@
--- A literal tells which atom it is of, and where it ends; a name ends at the first byte that continues none.
+-- A literal tells which atom it is of, and where it ends, a number's before no digit; a name ends at the first byte that continues none.
 use Rattle.std.proofs.Common.{◌≡◌, ◌≢◌, ℕ, ◌+◌, ◌-◌, ◌*◌, ◌/◌, ◌%◌, ◌<◌, ◌≤◌, Bool, true, false, List, [], ◌∷◌, ◌++◌, get_or, drop, codes, ◌⊎◌, inl, inr, refl, sym, ap, ap₂, subst, ◌∙◌, nat_lt, ◌==◌, if◌then◌else◌, arith, append_assoc}
 use Rattle.std.proofs.lemmas.Bool.{cases_eq, cases_lt, ne_eqb, lt-ltb, le-ltb, ltb-true, eqb-true, or_cases, false≢true}
 use Rattle.std.proofs.lemmas.Bool.Decides.{nat_tests}
@@ -6,9 +6,15 @@ use Rattle.std.proofs.lemmas.List.{append_cancel_left}
 use Rattle.std.proofs.lemmas.List.Elements.{All-head, All-tail, All-cons}
 use Rattle.std.specs.List.{AllPass, flat_map}
 use Rattle.flux_atom.specs.declared.atom.Atom.{Atom}
-use Rattle.flux_atom.specs.declared.atom.Atom.TheVariants.{Bool as Truth, Text}
+use Rattle.flux_atom.specs.declared.atom.Atom.TheVariants.{Bool as Truth, Text, Int as Number}
 use Rattle.flux_atom.specs.Names.{begins_name, continues_name, EndsName, IsName}
+use Rattle.flux_atom.specs.declared.number.NumberState.{NumberState}
+use Rattle.flux_atom.specs.declared.number.NumberState.TheVariants.{Digits}
 use Rattle.flux_atom.specs.Literal.{quote, backslash, newline, tab, is_control, hex_digit, hex_digits, escaped, literal}
+use Rattle.flux_atom.specs.Spelling.{EndsDigits}
+use Rattle.flux_atom.proofs.NumberRuns.{not_number, number_first, number_stands}
+use Rattle.flux_doctext.specs.Text.{HasRange}
+use Rattle.flux_doctext.proofs.Signs.{no_digit}
 
 -- what a hexadecimal digit is worth
 abbrev hex_value : ℕ → ℕ
@@ -118,20 +124,38 @@ escaped_end (a ∷ x) (b ∷ y) r s e =
 pub apart : (a b : ℕ) (r s : List ℕ) → a ≢ b → a ∷ r ≡ b ∷ s → ⊥
 apart a b r s differ e = differ (ap (λ l. get_or l 0 0) e)
 
--- two literals in front of one list are of one atom
-pub literal_end : (x y : Atom) (r s : List ℕ) → literal x ++ r ≡ literal y ++ s → (x ≡ y) × (r ≡ s)
-literal_end (Truth true) (Truth true) r s e = (refl, append_cancel_left (codes "true") r s e)
-literal_end (Truth false) (Truth false) r s e = (refl, append_cancel_left (codes "false") r s e)
-literal_end (Truth true) (Truth false) r s e = absurd (apart 116 102 _ _ (λ same. omega arith) e)
-literal_end (Truth false) (Truth true) r s e = absurd (apart 102 116 _ _ (λ same. omega arith) e)
-literal_end (Truth true) (Text y) r s e = absurd (apart 116 34 _ _ (λ same. omega arith) e)
-literal_end (Truth false) (Text y) r s e = absurd (apart 102 34 _ _ (λ same. omega arith) e)
-literal_end (Text x) (Truth true) r s e = absurd (apart 34 116 _ _ (λ same. omega arith) e)
-literal_end (Text x) (Truth false) r s e = absurd (apart 34 102 _ _ (λ same. omega arith) e)
-literal_end (Text x) (Text y) r s e =
+ends_digits : (r : List ℕ) → EndsName r → EndsDigits r
+ends_digits [] ends = tt
+ends_digits (b ∷ r) ends = no_digit b ends
+
+-- two literals in front of one list, with no byte behind that a name goes on with, are of one atom
+pub literal_end : (x y : Atom) (r s : List ℕ) → HasRange x → HasRange y → EndsName r → EndsName s → literal x ++ r ≡ literal y ++ s → (x ≡ y) × (r ≡ s)
+literal_end (Truth true) (Truth true) r s p q f g e = (refl, append_cancel_left (codes "true") r s e)
+literal_end (Truth false) (Truth false) r s p q f g e = (refl, append_cancel_left (codes "false") r s e)
+literal_end (Truth true) (Truth false) r s p q f g e = absurd (apart 116 102 _ _ (λ same. omega arith) e)
+literal_end (Truth false) (Truth true) r s p q f g e = absurd (apart 102 116 _ _ (λ same. omega arith) e)
+literal_end (Truth true) (Text y) r s p q f g e = absurd (apart 116 34 _ _ (λ same. omega arith) e)
+literal_end (Truth false) (Text y) r s p q f g e = absurd (apart 102 34 _ _ (λ same. omega arith) e)
+literal_end (Text x) (Truth true) r s p q f g e = absurd (apart 34 116 _ _ (λ same. omega arith) e)
+literal_end (Text x) (Truth false) r s p q f g e = absurd (apart 34 102 _ _ (λ same. omega arith) e)
+literal_end (Text x) (Text y) r s p q f g e =
     let rest : flat_map escaped x ++ quote ∷ r ≡ flat_map escaped y ++ quote ∷ s = sym (append_assoc (flat_map escaped x) (quote ∷ []) r) ∙ ap (drop 1) e ∙ append_assoc (flat_map escaped y) (quote ∷ []) s in
     let same = escaped_end x y r s rest in
     (ap Text same.0, same.1)
+literal_end (Truth true) (Number z) r s p q f g e = absurd (not_number 116 _ (literal (Number z)) s z refl e (q, refl))
+literal_end (Truth false) (Number z) r s p q f g e = absurd (not_number 102 _ (literal (Number z)) s z refl e (q, refl))
+literal_end (Text x) (Number z) r s p q f g e = absurd (not_number quote _ (literal (Number z)) s z refl e (q, refl))
+literal_end (Number z) (Truth true) r s p q f g e = absurd (not_number 116 _ (literal (Number z)) r z refl (sym e) (p, refl))
+literal_end (Number z) (Truth false) r s p q f g e = absurd (not_number 102 _ (literal (Number z)) r z refl (sym e) (p, refl))
+literal_end (Number z) (Text y) r s p q f g e = absurd (not_number quote _ (literal (Number z)) r z refl (sym e) (p, refl))
+literal_end (Number y) (Number z) r s p q f g e =
+    let begun = number_first (literal (Number y) ++ r) (literal (Number y)) r y refl (p, refl) in
+    let here = number_stands begun.0 begun.1 (literal (Number y)) r begun.2 y begun.4 (sym begun.3) (p, refl) (ends_digits r f) in
+    let there = number_stands begun.0 begun.1 (literal (Number z)) s begun.2 z begun.4 (sym begun.3 ∙ e) (q, refl) (ends_digits s g) in
+    let same : ◌≡◌ {A = NumberState × List ℕ} (Digits y, r) (Digits z, s) = sym here ∙ there in
+    let states : Digits y ≡ Digits z = ap (λ k. k.0) same in
+    let values : y ≡ z = cc in
+    (ap Number values, ap (λ k. k.1) same)
 
 -- the bytes before such an end are those of one name
 pub name_end : (p q r s : List ℕ) → AllPass continues_name p → AllPass continues_name q → EndsName r → EndsName s → p ++ r ≡ q ++ s → (p ≡ q) × (r ≡ s)

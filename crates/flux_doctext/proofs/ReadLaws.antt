@@ -6,9 +6,13 @@ use Rattle.std.proofs.lemmas.List.Elements.{All-head, All-tail}
 use Rattle.std.proofs.lemmas.List.Sums.{AllPass-from_list_all}
 use Rattle.std.proofs.lemmas.Slice.Eq.{bytes_eq-Decides}
 use Rattle.std.specs.List.{AllPass}
+use Rattle.std.specs.Prelude.{ℤ}
 use Rattle.flux_atom.specs.declared.atom.Atom.{Atom}
-use Rattle.flux_atom.specs.declared.atom.Atom.TheVariants.{Bool as Truth, Text}
+use Rattle.flux_atom.specs.declared.atom.Atom.TheVariants.{Bool as Truth, Text, Int as Number}
 use Rattle.flux_atom.specs.declared.text.TextState.TheVariants.{Between}
+use Rattle.flux_atom.specs.declared.number.NumberState.{NumberState}
+use Rattle.flux_atom.specs.declared.number.NumberState.TheVariants.{Minus, Digits}
+use Rattle.flux_atom.specs.NumberSteps.{number_begin, number_from, number_step, read_number}
 use Rattle.flux_atom.specs.Names.{continues_name, EndsName, IsName, IsLabel, IsTable}
 use Rattle.flux_atom.specs.Literal.{quote}
 use Rattle.flux_atom.specs.Spelling.{IsLiteral, AreItems}
@@ -19,11 +23,12 @@ use Rattle.flux_trees.proofs.DraftLaws.{depth-add, depth-begin, depth-end, add-n
 use Rattle.flux_doctext.specs.declared.sign.Sign.{Sign}
 use Rattle.flux_doctext.specs.declared.sign.Sign.TheVariants.{Space, Letter, Digit, Quote, Comma, LeftBracket, RightBracket, LeftParen, RightParen, Other}
 use Rattle.flux_doctext.specs.Spells.{is_space, IsSpace, Part, whole, inside, trees, tree, Spelled, none, some, nothing, something, last, more, element, atom}
-use Rattle.flux_doctext.specs.Reading.{sign_of, Shape, content, next, name, label, opened, closed, string, behind, Event, learn, enter, push, leave, Step, told, close_step, content_step, tree_step, behind_step, label_step, closed_step, opened_step, named_step, name_step, string_step, truth_of, step, end_named, end_step, number_of, PlainDraft, draft_after, end_fits}
+use Rattle.flux_doctext.specs.Reading.{sign_of, Shape, content, next, name, label, opened, closed, string, number, behind, Event, learn, enter, push, leave, Step, told, close_step, content_step, tree_step, behind_step, label_step, closed_step, opened_step, named_step, name_step, string_step, begin_step, digit_step, truth_of, step, end_named, end_step, number_of, PlainDraft, draft_after, end_fits}
 use Rattle.flux_doctext.proofs.Runs.{depth_after, and_fits, fits, and_read, end_read, read}
+use Rattle.flux_atom.proofs.NumberLaws.{literal_reads, no_digit_fits, none_stays}
 use Rattle.flux_atom.proofs.TextLaws.{read_items}
 use Rattle.flux_doctext.proofs.TextLaws.{EndsTrees}
-use Rattle.flux_doctext.proofs.Signs.{space_sign, letter_sign, named_sign, not_named, spaces_end, IsNamed}
+use Rattle.flux_doctext.proofs.Signs.{space_sign, letter_sign, digit_sign, no_digit, named_sign, not_named, spaces_end, IsNamed}
 
 -- the number of a text that the table holds
 number_held : (names : List (List ℕ)) (a : ℕ) (t : List ℕ) → slice_get names a ≡ Some t → slice_get names (number_of names t) ≡ Some t
@@ -62,12 +67,14 @@ pub record Awaits (s : Shape) : Type 0 where
   pub space : (n b : ℕ) → sign_of b ≡ Space → step s n b ≡ Some (s, [])
   pub letter : (n b : ℕ) → sign_of b ≡ Letter → step s n b ≡ Some (name (b ∷ []), [])
   pub quoted : (n b : ℕ) → sign_of b ≡ Quote → step s n b ≡ Some (string no_text, [])
+  pub digit : (n b : ℕ) → sign_of b ≡ Digit → step s n b ≡ begin_step (number_begin b)
 
 pub awaits_content : Awaits content
 awaits_content = record {
   space = λ n b e. ap (content_step n b) e;
   letter = λ n b e. ap (content_step n b) e;
   quoted = λ n b e. ap (content_step n b) e;
+  digit = λ n b e. ap (content_step n b) e;
 }
 
 pub awaits_next : Awaits next
@@ -75,6 +82,7 @@ awaits_next = record {
   space = λ n b e. ap (tree_step next b) e;
   letter = λ n b e. ap (tree_step next b) e;
   quoted = λ n b e. ap (tree_step next b) e;
+  digit = λ n b e. ap (tree_step next b) e;
 }
 
 -- the depth that events leave
@@ -165,6 +173,46 @@ module _ (names : List (List ℕ)) where
           let wrong : None ≡ Some s = sym (ap (λ o. and_text (read_on o r.1) (λ q. read_text q items)) e) ∙ is in
           absurd cc
 
+  -- the digits of a number
+  read_digits : (at to : NumberState) (digits rest : List ℕ) (d : PlainDraft) → number_from (Some at) digits ≡ Some to → read names (number at) d (digits ++ rest) ≡ read names (number to) d rest
+  read_digits at to [] rest d is = let same : at ≡ to = cc in ap (λ s. read names (number s) d rest) same
+  read_digits at to (b ∷ digits) rest d is =
+      by (number_step at b) refl (λ s e. read_digits s to digits rest d e)
+    where
+      by : (o : Option NumberState) → number_step at b ≡ o → ((s : NumberState) → number_from (Some s) digits ≡ Some to → read names (number s) d (digits ++ rest) ≡ read names (number to) d rest) → read names (number at) d (b ∷ (digits ++ rest)) ≡ read names (number to) d rest
+      by None e further =
+          let wrong : ◌≡◌ {A = Option NumberState} None (Some to) = sym (none_stays digits) ∙ sym (ap (λ o. number_from o digits) e) ∙ is in
+          absurd cc
+      by (Some s) e further =
+          stepped (number at) d b (digits ++ rest) (Some (number s, [])) (ap (λ o. digit_step at o (depth d) (sign_of b)) e)
+          ∙ further s (sym (ap (λ o. number_from o digits) e) ∙ is)
+
+  push_read : (x : Atom) (o : Step) (d : PlainDraft) (bs : List ℕ) → and_read names (told (push x) o) d (λ t e. read names t e bs) ≡ and_read names o (add d (leaf tt x nil)) (λ t e. read names t e bs)
+  push_read x None d bs = refl
+  push_read x (Some o) d bs = refl
+
+  -- a number ends
+  read_numbered : (z : ℤ) (d : PlainDraft) (rest : List ℕ) → EndsName rest → read names (number (Digits z)) d rest ≡ read names behind (add d (leaf tt (Number z) nil)) rest
+  read_numbered z d [] ends = refl
+  read_numbered z d (b ∷ bs) ends =
+      stepped (number (Digits z)) d b bs (told (push (Number z)) (behind_step (depth d) (sign_of b))) (ap (λ o. digit_step (Digits z) o (depth d) (sign_of b)) (no_digit_fits (Digits z) b (no_digit b ends)))
+      ∙ push_read (Number z) (behind_step (depth d) (sign_of b)) d bs
+      ∙ ap (λ n. and_read names (behind_step n (sign_of b)) (add d (leaf tt (Number z) nil)) (λ t e. read names t e bs)) (sym (depth-add d (leaf tt (Number z) nil)))
+
+  -- a number
+  read_signed : (s : Shape) → Awaits s → (bytes : List ℕ) (z : ℤ) (d : PlainDraft) (rest : List ℕ) → read_number bytes ≡ Some (Digits z) → EndsName rest → read names s d (bytes ++ rest) ≡ read names behind (add d (leaf tt (Number z) nil)) rest
+  read_signed s awaits [] z d rest is ends = absurd cc
+  read_signed s awaits (b ∷ digits) z d rest is ends = by (number_begin b) refl
+    where
+      by : (o : Option NumberState) → number_begin b ≡ o → read names s d (b ∷ (digits ++ rest)) ≡ read names behind (add d (leaf tt (Number z) nil)) rest
+      by None e =
+          let wrong : ◌≡◌ {A = Option NumberState} None (Some (Digits z)) = sym (none_stays digits) ∙ sym (ap (λ o. number_from o digits) e) ∙ is in
+          absurd cc
+      by (Some at) e =
+          stepped s d b (digits ++ rest) (Some (number at, [])) (awaits.digit (depth d) b (digit_sign b at e) ∙ ap begin_step e)
+          ∙ read_digits at (Digits z) digits rest d (sym (ap (λ o. number_from o digits) e) ∙ is)
+          ∙ read_numbered z d rest ends
+
   -- what each part of a document does
   abbrev IsReadTo : Part → List ℕ → Plain → Type 0
   IsReadTo tree bytes v = (s : Shape) → Awaits s → (d : PlainDraft) (rest : List ℕ) → EndsName rest → read names s d (bytes ++ rest) ≡ read names behind (add d v) rest
@@ -214,6 +262,8 @@ module _ (names : List (List ℕ)) where
       ap (λ l. read names s d (l ++ rest)) is
       ∙ read_name s awaits (codes "false") rest d (refl, AllPass-from_list_all continues_name (drop 1 (codes "false")) refl)
       ∙ read_truth (codes "false") (Truth false) d rest refl ends
+  read_literal s awaits bytes (Number z) is d rest ends =
+      read_signed s awaits bytes z d rest (literal_reads bytes z is) ends
   read_literal s awaits bytes (Text text) is d rest ends =
       ap (λ l. read names s d (l ++ rest)) is.2
       ∙ ap (λ l. read names s d (quote ∷ l)) (append_assoc is.0 (quote ∷ []) rest)
@@ -277,6 +327,9 @@ module _ (names : List (List ℕ)) where
   end_taken (string r) d v is = absurd cc
   end_taken closed d v is = end_depth d v is
   end_taken behind d v is = end_depth d v is
+  end_taken (number Minus) d v is = absurd cc
+  end_taken (number (Digits z)) d v is =
+      ap (λ n. n == 0) (sym (depth-add d (leaf tt (Number z) nil))) ∙ end_depth (add d (leaf tt (Number z) nil)) v is
   end_taken (name text) d v is = by (truth_of text) is
     where
       by : (o : Option Atom) → end_read names (end_named o) d ≡ Some (done v) → end_fits (end_named o) (depth d) ≡ true

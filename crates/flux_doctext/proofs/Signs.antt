@@ -1,7 +1,12 @@
 -- What a sign says of its byte.
-use Rattle.std.proofs.Common.{◌≡◌, ℕ, ◌<◌, Bool, true, false, ◌==◌, List, [], ◌∷◌, ◌++◌, ◌⊎◌, inl, inr, if◌then◌else◌, refl, sym, ◌∙◌, arith}
+use Rattle.std.proofs.Common.{◌≡◌, ℕ, ◌<◌, Bool, true, false, ◌==◌, List, [], ◌∷◌, ◌++◌, ◌⊎◌, inl, inr, if◌then◌else◌, refl, sym, ap, ap₂, ◌∙◌, arith}
 use Rattle.std.proofs.lemmas.Bool.{eqb-true, false≢true}
 use Rattle.std.proofs.lemmas.Bool.Decides.{nat_tests}
+use Rattle.std.specs.Char.{is_ascii_digit}
+use Rattle.std.specs.Prelude.{◌-◌, Option, Some, None, pos}
+use Rattle.flux_atom.specs.declared.number.NumberState.{NumberState}
+use Rattle.flux_atom.specs.declared.number.NumberState.TheVariants.{Minus, Digits}
+use Rattle.flux_atom.specs.NumberSteps.{minus, number_begin}
 use Rattle.flux_atom.specs.Names.{begins_name, continues_name, EndsName}
 use Rattle.flux_atom.specs.Literal.{quote}
 use Rattle.flux_doctext.specs.declared.sign.Sign.{Sign}
@@ -70,6 +75,25 @@ named_sign b e = by (begins_name b) refl
     by false h =
         let t = continue_tests b e in
         inr (rw (t.0, t.1, t.2, t.3, t.4, t.5, t.6, h, e) refl)
+
+-- the first byte of a number continues a name, and begins none
+pub digit_sign : (b : ℕ) (at : NumberState) → number_begin b ≡ Some at → sign_of b ≡ Digit
+digit_sign b at e = by (b == minus) refl (is_ascii_digit b) refl
+  where
+    signed : continues_name b ≡ true → begins_name b ≡ false → sign_of b ≡ Digit
+    signed f h = let t = continue_tests b f in rw (t.0, t.1, t.2, t.3, t.4, t.5, t.6, h, f) refl
+
+    neither : (x y : Bool) → (b == minus) ≡ x → is_ascii_digit b ≡ y → (if x then Some Minus else (if y then Some (Digits (pos (b - 48))) else None)) ≡ Some at
+    neither x y f h = sym (ap₂ (λ v w. if v then Some Minus else (if w then Some (Digits (pos (b - 48))) else None)) f h) ∙ e
+
+    by : (x : Bool) → (b == minus) ≡ x → (y : Bool) → is_ascii_digit b ≡ y → sign_of b ≡ Digit
+    by true f y h = let is : b ≡ minus = eqb-true b minus f in ap sign_of is
+    by false f true h = signed (grind (arith, nat_tests)) (grind (arith, nat_tests))
+    by false f false h = let none : ◌≡◌ {A = Option NumberState} None (Some at) = neither false false f h in absurd cc
+
+-- and no digit goes on where no name does
+pub no_digit : (b : ℕ) → continues_name b ≡ false → is_ascii_digit b ≡ false
+no_digit b e = grind (arith, nat_tests)
 
 -- what a sign that is in no name says of its byte
 abbrev pub IsNamed : Sign → Type 0

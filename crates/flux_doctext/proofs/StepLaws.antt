@@ -1,15 +1,20 @@
 -- A byte that fits leaves what is read well read.
 use Rattle.std.proofs.Common.{◌≡◌, ℕ, zero, suc, Bool, true, false, List, [], ◌∷◌, ◌++◌, codes, bytes_eq, Option, Some, None, if◌then◌else◌, refl, sym, ap, subst, ◌∙◌, append_assoc, arith}
+use Rattle.std.specs.Prelude.{ℤ}
 use Rattle.std.proofs.lemmas.Bool.{false≢true}
 use Rattle.std.proofs.lemmas.List.{append-nil}
 use Rattle.std.proofs.lemmas.List.Elements.{All-push, All-nil}
 use Rattle.std.proofs.lemmas.Slice.Eq.{bytes_eq-Decides}
 use Rattle.flux_atom.specs.declared.atom.Atom.{Atom}
-use Rattle.flux_atom.specs.declared.atom.Atom.TheVariants.{Bool as Truth, Text}
+use Rattle.flux_atom.specs.declared.atom.Atom.TheVariants.{Bool as Truth, Text, Int as Number}
 use Rattle.flux_atom.specs.Names.{continues_name, IsName, with_text}
+use Rattle.flux_atom.specs.declared.number.NumberState.{NumberState}
+use Rattle.flux_atom.specs.declared.number.NumberState.TheVariants.{Minus, Digits}
 use Rattle.flux_atom.specs.Literal.{quote}
+use Rattle.flux_atom.specs.NumberSteps.{number_begin, number_step, read_number}
 use Rattle.flux_atom.specs.Spelling.{IsLiteral}
 use Rattle.flux_atom.specs.TextSteps.{TextStep, on, closes, misfits, TextRead, text_step, no_text, read_on, and_read as and_text}
+use Rattle.flux_atom.proofs.NumberLaws.{read_push, says}
 use Rattle.flux_atom.proofs.TextLaws.{read_then, items_read, closes_at_quote}
 use Rattle.flux_trees.specs.Hedge.{Plain, nil, leaf, join}
 use Rattle.flux_trees.specs.Draft.{depth, add, end}
@@ -17,7 +22,7 @@ use Rattle.flux_trees.proofs.DraftLaws.{depth-add}
 use Rattle.flux_doctext.specs.declared.sign.Sign.{Sign}
 use Rattle.flux_doctext.specs.declared.sign.Sign.TheVariants.{Space, Letter, Digit, Quote, Comma, LeftBracket, RightBracket, LeftParen, RightParen, Other}
 use Rattle.flux_doctext.specs.Spells.{is_space, inside, trees, Spelled, none, some, nothing, something, atom}
-use Rattle.flux_doctext.specs.Reading.{sign_of, Shape, content, next, name, label, opened, closed, string, behind, learn, push, Step, told, close_step, content_step, tree_step, behind_step, label_step, closed_step, opened_step, named_step, name_step, string_step, truth_of, step, number_of, PlainDraft, draft_after, names_after}
+use Rattle.flux_doctext.specs.Reading.{sign_of, Shape, content, next, name, label, opened, closed, string, number, behind, learn, push, Step, told, close_step, content_step, tree_step, behind_step, label_step, closed_step, opened_step, named_step, name_step, string_step, begin_step, numbered_step, digit_step, truth_of, step, number_of, PlainDraft, draft_after, names_after}
 use Rattle.flux_doctext.proofs.Signs.{IsSignOf, sign_is, begins-continues}
 use Rattle.flux_doctext.proofs.SpelledLaws.{no_space, one_space, trees_space, whole_space}
 use Rattle.flux_doctext.proofs.WrittenLaws.{written-with_text, with_text-number, lifted, lifted_add, lifted_begin, lifted_end, tree_behind}
@@ -97,6 +102,11 @@ pub named_behind : (names : List (List ℕ)) (text : List ℕ) (x : Atom) (bytes
 named_behind names text x bytes d is w =
     subst (λ l. IsRead names behind l (add d (leaf tt x nil))) (append-nil bytes) (lifted_add names (Core names (name text)) (Core names behind) [] (leaf tt x nil) (λ y h c. subst (λ l. Spelled names trees l (join h (leaf tt x nil))) (sym (append-nil y)) (literal_behind names x (λ t. (t ≡ text) × IsName text) (λ t p. subst (λ l. IsLiteral l x) (sym p.0) (truth_literal text x is)) y h c)) bytes d w)
 
+-- and so is a number
+pub numbered_behind : (names : List (List ℕ)) (z : ℤ) (bytes : List ℕ) (d : PlainDraft) → IsRead names (number (Digits z)) bytes d → IsRead names behind bytes (add d (leaf tt (Number z) nil))
+numbered_behind names z bytes d w =
+    subst (λ l. IsRead names behind l (add d (leaf tt (Number z) nil))) (append-nil bytes) (lifted_add names (Core names (number (Digits z))) (Core names behind) [] (leaf tt (Number z) nil) (λ y h c. subst (λ l. Spelled names trees l (join h (leaf tt (Number z) nil))) (sym (append-nil y)) (literal_behind names (Number z) (λ t. read_number t ≡ Some (Digits z)) (λ t e. says t (Digits z) e) y h c)) bytes d w)
+
 -- another is a label, which the table is shown
 pub named_label : (names : List (List ℕ)) (text : List ℕ) (bytes : List ℕ) (d : PlainDraft) → truth_of text ≡ None → IsRead names (name text) bytes d → IsRead (with_text names text) (label text) bytes d
 named_label names text bytes d is w =
@@ -134,7 +144,12 @@ module _ (names : List (List ℕ)) (d : PlainDraft) (bytes : List ℕ) (b : ℕ)
   tree_kept stay to_next to_stay w RightBracket is = tt
   tree_kept stay to_next to_stay w LeftParen is = tt
   tree_kept stay to_next to_stay w RightParen is = tt
-  tree_kept stay to_next to_stay w Digit is = tt
+  tree_kept stay to_next to_stay w Digit is = begun (number_begin b) refl
+    where
+      begun : (o : Option NumberState) → number_begin b ≡ o → IsKept names d (bytes ++ b ∷ []) (begin_step o)
+      begun None e = tt
+      begun (Some at) e =
+          lifted names (Core names stay) (Core names (number at)) (b ∷ []) (λ x h c. begun_more names (λ t. t ≡ []) (λ t. read_number t ≡ Some at) (b ∷ []) (λ t nothing_yet. ap (λ l. read_number (l ++ b ∷ [])) nothing_yet ∙ e) x h (to_next x h c)) bytes d w
   tree_kept stay to_next to_stay w Other is = tt
 
   empty_inside : (x : List ℕ) (h : Plain) → Core names content x h → Spelled names inside x h
@@ -153,7 +168,7 @@ module _ (names : List (List ℕ)) (d : PlainDraft) (bytes : List ℕ) (b : ℕ)
   content_kept w Comma is = tt
   content_kept w LeftBracket is = tt
   content_kept w RightParen is = tt
-  content_kept w Digit is = tt
+  content_kept w Digit is = tree_kept content (content_next names) content_space w Digit is
   content_kept w Other is = tt
 
   opened_kept : IsRead names opened bytes d → (s : Sign) → IsSignOf b s → IsKept names d (bytes ++ b ∷ []) (opened_step s)
@@ -234,6 +249,17 @@ named_kept names d bytes b text w s is (Some x) e =
 named_kept names d bytes b text w s is None e =
     learn_kept names d (bytes ++ b ∷ []) text (label_step text s) (label_kept (with_text names text) d bytes b text (named_label names text bytes d e w) s is)
 
+numbered_kept : (names : List (List ℕ)) (d : PlainDraft) (bytes : List ℕ) (b : ℕ) (at : NumberState) → IsRead names (number at) bytes d → (s : Sign) → IsSignOf b s → IsKept names d (bytes ++ b ∷ []) (numbered_step at (depth d) s)
+numbered_kept names d bytes b Minus w s is = tt
+numbered_kept names d bytes b (Digits z) w s is =
+    let x = Number z in
+    push_kept names d (bytes ++ b ∷ []) x (behind_step (depth d) s) (subst (λ n. IsKept names (add d (leaf tt x nil)) (bytes ++ b ∷ []) (behind_step n s)) (depth-add d (leaf tt x nil)) (behind_kept names (add d (leaf tt x nil)) bytes b (numbered_behind names z bytes d w) s is))
+
+digit_kept : (names : List (List ℕ)) (d : PlainDraft) (bytes : List ℕ) (b : ℕ) (at : NumberState) → IsRead names (number at) bytes d → (o : Option NumberState) → number_step at b ≡ o → (s : Sign) → IsSignOf b s → IsKept names d (bytes ++ b ∷ []) (digit_step at o (depth d) s)
+digit_kept names d bytes b at w None e s is = numbered_kept names d bytes b at w s is
+digit_kept names d bytes b at w (Some to) e s is =
+    lifted names (Core names (number at)) (Core names (number to)) (b ∷ []) (begun_more names (λ t. read_number t ≡ Some at) (λ t. read_number t ≡ Some to) (b ∷ []) (λ t f. read_push t b at f ∙ e)) bytes d w
+
 module _ (names : List (List ℕ)) (d : PlainDraft) (bytes : List ℕ) (b : ℕ) where
   longer : (text : List ℕ) → continues_name b ≡ true → IsRead names (name text) bytes d → IsRead names (name (text ++ b ∷ [])) (bytes ++ b ∷ []) d
   longer text is w =
@@ -264,4 +290,5 @@ module _ (names : List (List ℕ)) (d : PlainDraft) (bytes : List ℕ) (b : ℕ)
   step_kept opened w = opened_kept names d bytes b w (sign_of b) (sign_is b)
   step_kept closed w = closed_kept names d bytes b w (sign_of b) (sign_is b)
   step_kept (string r) w = string_kept names d bytes b r w (text_step r.0 b) refl
+  step_kept (number at) w = digit_kept names d bytes b at w (number_step at b) refl (sign_of b) (sign_is b)
   step_kept behind w = behind_kept names d bytes b w (sign_of b) (sign_is b)

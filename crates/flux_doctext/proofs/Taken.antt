@@ -1,11 +1,14 @@
 -- The steps of the reader, as its functions take them.
-use Rattle.std.proofs.Common.{◌≡◌, ℕ, ◌<◌, Bool, true, false, List, [], ◌∷◌, ◌++◌, length, slice_get, unwrap_or, Option, ◌⊎◌, inl, inr, Some, None, Result, Ok, Err, IfOk, IsTrue, IsUtf8, refl, sym, ap, subst, ◌∙◌}
-use Rattle.std.specs.Prelude.{◌↔◌}
+use Rattle.std.proofs.Common.{◌≡◌, ℕ, ◌<◌, Bool, true, false, List, [], ◌∷◌, ◌++◌, length, slice_get, unwrap_or, Option, ◌⊎◌, inl, inr, Some, None, Result, Ok, Err, IfOk, IsTrue, refl, sym, ap, subst, ◌∙◌}
+use Rattle.std.specs.Prelude.{◌↔◌, ℤ}
 use Rattle.std.proofs.lemmas.Bool.{false≢true, ne_eqb}
 use Rattle.std.proofs.lemmas.List.Elements.{All-push}
 use Rattle.std.proofs.lemmas.Option.{slice_get-get_or, unwrap_or-slice_get}
 use Rattle.flux_atom.specs.declared.atom.Atom.{Atom}
 use Rattle.flux_atom.specs.declared.text.TextState.TheVariants.{Between}
+use Rattle.flux_atom.specs.declared.atom.Atom.TheVariants.{Int as Number}
+use Rattle.flux_atom.specs.declared.number.NumberState.{NumberState}
+use Rattle.flux_atom.specs.declared.number.NumberState.TheVariants.{Digits}
 use Rattle.flux_atom.specs.Names.{name_text, continues_name, IsName, IsTable, with_text}
 use Rattle.flux_atom.specs.TextSteps.{TextStep, on, closes, misfits, TextRead, text_step, no_text, read_on, and_read as and_text, read_text}
 use Rattle.flux_atom.proofs.TextLaws.{read_then, closes_at_quote}
@@ -16,7 +19,7 @@ use Rattle.flux_doctext.specs.declared.reader.State.{State}
 use Rattle.flux_doctext.specs.declared.reader.State.TheVariants.{Content, Text}
 use Rattle.flux_doctext.specs.declared.sign.Sign.{Sign}
 use Rattle.flux_doctext.specs.declared.sign.Sign.TheVariants.{Space, Letter, Digit, Quote, Comma, LeftBracket, RightBracket, LeftParen, RightParen, Other}
-use Rattle.flux_doctext.specs.Reading.{sign_of, content, name, string, learn, enter, push, Step, told, behind_step, content_step, tree_step, label_step, named_step, name_step, string_step, truth_of, end_named, PlainDraft, names_after}
+use Rattle.flux_doctext.specs.Reading.{sign_of, content, name, string, learn, enter, push, Step, told, behind_step, content_step, tree_step, label_step, named_step, name_step, string_step, numbered_step, truth_of, end_named, end_numbered, PlainDraft, names_after}
 use Rattle.flux_doctext.specs.Steps.{shape_of, IsSound, IsTaken, Follows, Ends}
 use Rattle.flux_doctext.proofs.ReadLaws.{number_is}
 use Rattle.flux_doctext.proofs.Signs.{IsNamed, named_continues}
@@ -53,10 +56,20 @@ push_follows names new x o d e (Some state) i = record {
   sound = i.sound;
 }
 
--- a name that is an atom, and a byte behind it
+-- an atom, and a byte behind it
+pushed_follows : (names : List (List ℕ)) (x : Atom) (s : Sign) (d pushed e : PlainDraft) (r : Option State) → pushed ≡ add d (leaf tt x nil) → Follows names (behind_step (depth pushed) s) pushed names e r → Follows names (told (push x) (behind_step (depth d) s)) d names e r
+pushed_follows names x s d pushed e r added f =
+    push_follows names names x (behind_step (depth d) s) d e r (subst (λ n. Follows names (behind_step n s) (add d (leaf tt x nil)) names e r) (depth-add d (leaf tt x nil)) (subst (λ p. Follows names (behind_step (depth p) s) p names e r) added f))
+
+-- a name that is an atom
 pub atom_follows : (names : List (List ℕ)) (text : List ℕ) (x : Atom) (s : Sign) (d pushed e : PlainDraft) (r : Option State) → truth_of text ≡ Some x → pushed ≡ add d (leaf tt x nil) → Follows names (behind_step (depth pushed) s) pushed names e r → Follows names (named_step text (truth_of text) (depth d) s) d names e r
 atom_follows names text x s d pushed e r is added f =
-    subst (λ o. Follows names (named_step text o (depth d) s) d names e r) (sym is) (push_follows names names x (behind_step (depth d) s) d e r (subst (λ n. Follows names (behind_step n s) (add d (leaf tt x nil)) names e r) (depth-add d (leaf tt x nil)) (subst (λ p. Follows names (behind_step (depth p) s) p names e r) added f)))
+    subst (λ o. Follows names (named_step text o (depth d) s) d names e r) (sym is) (pushed_follows names x s d pushed e r added f)
+
+-- a number
+pub number_follows : (names : List (List ℕ)) (at : NumberState) (z : ℤ) (s : Sign) (d pushed e : PlainDraft) (r : Option State) → at ≡ Digits z → pushed ≡ add d (leaf tt (Number z) nil) → Follows names (behind_step (depth pushed) s) pushed names e r → Follows names (numbered_step at (depth d) s) d names e r
+number_follows names at z s d pushed e r is added f =
+    subst (λ a. Follows names (numbered_step a (depth d) s) d names e r) (sym is) (pushed_follows names (Number z) s d pushed e r added f)
 
 learn_follows : (old new : List (List ℕ)) (text : List ℕ) (o : Step) (d e : PlainDraft) (r : Option State) → new ≡ with_text old text → Follows new o d new e r → Follows old (told (learn text) o) d new e r
 learn_follows old new text o d e None is f = ap (told (learn text)) f
@@ -132,13 +145,21 @@ text_taken names r s b d are e = record {
 pub text_closed : (r s : TextRead) (b : ℕ) → (text_step r.0 b ≡ closes) × (s ≡ r) → s.0 ≡ Between
 text_closed r s b (ends, same) = ap (λ q. q.0) same ∙ (closes_at_quote r.0 b ends).0
 
--- the end of the text
-pub name_ends : (text : List ℕ) (x : Atom) (d pushed : PlainDraft) (whole : Bool) → truth_of text ≡ Some x → pushed ≡ add d (leaf tt x nil) → (IsTrue whole ↔ (depth pushed ≡ 0)) → Ends (end_named (truth_of text)) d pushed whole
-name_ends text x d pushed whole is added w = subst (λ o. Ends (end_named o) d pushed whole) (sym is) (by whole w)
+-- the end of the text, behind an atom
+atom_ends : (x : Atom) (d pushed : PlainDraft) (whole : Bool) → pushed ≡ add d (leaf tt x nil) → (IsTrue whole ↔ (depth pushed ≡ 0)) → Ends (Some (push x ∷ [])) d pushed whole
+atom_ends x d pushed whole added w = by whole w
   where
     same : depth pushed ≡ depth d
     same = ap depth added ∙ depth-add d (leaf tt x nil)
 
-    by : (t : Bool) → (IsTrue t ↔ (depth pushed ≡ 0)) → Ends (end_named (Some x)) d pushed t
+    by : (t : Bool) → (IsTrue t ↔ (depth pushed ≡ 0)) → Ends (Some (push x ∷ [])) d pushed t
     by true w = record { events = push x ∷ []; fits = refl; whole = sym same ∙ w.0 refl; draws = λ names. added }
     by false w = ne_eqb (depth d) 0 (λ e. false≢true (w.1 (same ∙ e)))
+
+pub name_ends : (text : List ℕ) (x : Atom) (d pushed : PlainDraft) (whole : Bool) → truth_of text ≡ Some x → pushed ≡ add d (leaf tt x nil) → (IsTrue whole ↔ (depth pushed ≡ 0)) → Ends (end_named (truth_of text)) d pushed whole
+name_ends text x d pushed whole is added w =
+    subst (λ o. Ends (end_named o) d pushed whole) (sym is) (atom_ends x d pushed whole added w)
+
+pub number_ends : (at : NumberState) (z : ℤ) (d pushed : PlainDraft) (whole : Bool) → at ≡ Digits z → pushed ≡ add d (leaf tt (Number z) nil) → (IsTrue whole ↔ (depth pushed ≡ 0)) → Ends (end_numbered at) d pushed whole
+number_ends at z d pushed whole is added w =
+    subst (λ a. Ends (end_numbered a) d pushed whole) (sym is) (atom_ends (Number z) d pushed whole added w)

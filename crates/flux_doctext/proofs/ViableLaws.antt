@@ -2,8 +2,11 @@
 use Rattle.std.proofs.Common.{◌≡◌, ℕ, zero, suc, Bool, true, false, List, [], ◌∷◌, ◌++◌, codes, bytes_eq, Option, Some, None, if◌then◌else◌, refl, sym, ap, subst, ◌∙◌, append_assoc, arith}
 use Rattle.std.proofs.lemmas.List.{append-nil}
 use Rattle.std.specs.List.{list_any}
+use Rattle.std.specs.Prelude.{ℤ, negsuc}
 use Rattle.flux_atom.specs.declared.atom.Atom.{Atom}
 use Rattle.flux_atom.specs.declared.text.TextState.TheVariants.{Between}
+use Rattle.flux_atom.specs.declared.atom.Atom.TheVariants.{Int as Number}
+use Rattle.flux_atom.specs.declared.number.NumberState.TheVariants.{Minus, Digits}
 use Rattle.flux_atom.specs.Names.{IsName, IsTable, with_text}
 use Rattle.flux_atom.specs.Literal.{quote}
 use Rattle.flux_atom.specs.TextSteps.{TextRead, no_text, read_text}
@@ -13,10 +16,10 @@ use Rattle.flux_trees.specs.Hedge.{Plain, nil, leaf}
 use Rattle.flux_trees.specs.Draft.{done, begun, depth, add, begin, end}
 use Rattle.flux_trees.proofs.DraftLaws.{depth-end}
 use Rattle.flux_doctext.specs.Spells.{Spelled, whole, inside, something, some, Spells, IsViable}
-use Rattle.flux_doctext.specs.Reading.{Shape, content, next, name, label, opened, closed, string, behind, truth_of, number_of, PlainDraft}
+use Rattle.flux_doctext.specs.Reading.{Shape, content, next, name, label, opened, closed, string, number, behind, truth_of, number_of, PlainDraft}
 use Rattle.flux_doctext.proofs.Written.{IsQuoted, Core}
 use Rattle.flux_doctext.proofs.WrittenLaws.{lifted, lifted_end}
-use Rattle.flux_doctext.proofs.StepLaws.{IsRead, begun_more, named_behind, named_label, step_kept}
+use Rattle.flux_doctext.proofs.StepLaws.{IsRead, begun_more, named_behind, numbered_behind, named_label, step_kept}
 
 -- a table that was shown a name is one
 pub IsTable-with_text : (names : List (List ℕ)) (text : List ℕ) → IsTable names → IsName text → IsTable (with_text names text)
@@ -90,6 +93,15 @@ module _ (names : List (List ℕ)) (table : IsTable names) where
   viable_next bytes d w =
       viable_front bytes (quote ∷ []) (viable_string (bytes ++ quote ∷ []) d no_text (step_kept names d bytes quote next w))
 
+  viable_number : (z : ℤ) (bytes : List ℕ) (d : PlainDraft) → IsRead names (number (Digits z)) bytes d → IsViable bytes
+  viable_number z bytes d w =
+      viable_behind (depth (add d (leaf tt (Number z) nil))) bytes (add d (leaf tt (Number z) nil)) refl (numbered_behind names z bytes d w)
+
+  -- a digit behind `-`
+  viable_minus : (bytes : List ℕ) (d : PlainDraft) → IsRead names (number Minus) bytes d → IsViable bytes
+  viable_minus bytes d w =
+      viable_front bytes (49 ∷ []) (viable_number (negsuc 0) (bytes ++ 49 ∷ []) d (step_kept names d bytes 49 (number Minus) w))
+
   viable_label : (text bytes : List ℕ) (d : PlainDraft) → IsRead names (label text) bytes d → IsViable bytes
   viable_label text bytes d w =
       viable_front bytes (91 ∷ []) (viable_content (bytes ++ 91 ∷ []) (begin d tt (number_of names text)) (step_kept names d bytes 91 (label text) w))
@@ -106,5 +118,7 @@ read_viable names (name text) bytes d table w = by (truth_of text) refl
 read_viable names (label text) bytes d table w = viable_label names table text bytes d w
 read_viable names opened bytes d table w = viable_opened names table bytes d w
 read_viable names closed bytes d table w = viable_closed names table bytes d w
+read_viable names (number Minus) bytes d table w = viable_minus names table bytes d w
+read_viable names (number (Digits z)) bytes d table w = viable_number names table z bytes d w
 read_viable names (string r) bytes d table w = viable_string names table bytes d r w
 read_viable names behind bytes d table w = viable_behind names table (depth d) bytes d refl w

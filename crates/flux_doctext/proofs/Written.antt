@@ -2,11 +2,12 @@
 use Rattle.std.proofs.Common.{◌≡◌, ℕ, List, [], ◌∷◌, ◌++◌, slice_get, codes, Some}
 use Rattle.flux_atom.specs.Names.{IsName, IsLabel}
 use Rattle.flux_atom.specs.Literal.{quote}
+use Rattle.flux_atom.specs.NumberSteps.{read_number}
 use Rattle.flux_atom.specs.TextSteps.{TextRead, no_text, read_text}
 use Rattle.flux_trees.specs.Hedge.{Plain, nil}
 use Rattle.flux_trees.specs.Draft.{done, begun}
 use Rattle.flux_doctext.specs.Spells.{IsSpace, whole, trees, Spelled}
-use Rattle.flux_doctext.specs.Reading.{Shape, content, next, name, label, opened, closed, string, behind, number_of, PlainDraft}
+use Rattle.flux_doctext.specs.Reading.{Shape, content, next, name, label, opened, closed, string, number, behind, number_of, PlainDraft}
 
 -- what stands before a tree: nothing, or the trees before it and a comma
 pub data Ahead (names : List (List ℕ)) (bytes : List ℕ) (h : Plain) : Type 0 where
@@ -59,6 +60,7 @@ Core names (label text) bytes h = Begun names (IsLabelled names text) bytes h
 Core names opened bytes h = IsParenthesis bytes × (h ≡ nil)
 Core names closed bytes h = Spelled names whole bytes nil × (h ≡ nil)
 Core names (string r) bytes h = Begun names (IsQuoted r) bytes h
+Core names (number at) bytes h = Begun names (λ t. read_number t ≡ Some at) bytes h
 Core names behind bytes h = Spelled names trees bytes h
 
 -- an element that is begun: what stands before it and its bracket, and what is read in it

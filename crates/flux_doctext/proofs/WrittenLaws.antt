@@ -8,7 +8,7 @@ use Rattle.flux_atom.specs.Names.{with_text}
 use Rattle.flux_trees.specs.Hedge.{Plain, nil, elem, join}
 use Rattle.flux_trees.specs.Draft.{done, begun, depth, add, begin, end}
 use Rattle.flux_doctext.specs.Spells.{inside, trees, tree, Spelled, last, element}
-use Rattle.flux_doctext.specs.Reading.{Shape, content, next, name, label, opened, closed, string, behind, step, number_of, PlainDraft}
+use Rattle.flux_doctext.specs.Reading.{Shape, content, next, name, label, opened, closed, string, number, behind, step, number_of, PlainDraft}
 use Rattle.flux_doctext.proofs.ReadLaws.{number_found}
 use Rattle.flux_doctext.proofs.SpelledLaws.{no_space, held_more, spelled-more, trees_push}
 use Rattle.flux_doctext.proofs.Written.{Ahead, first, further, Begun, IsLabelled, IsOpening, Core, Written}
@@ -58,6 +58,7 @@ module _ (names others : List (List ℕ)) where
   core-more opened bytes h c = c
   core-more closed bytes h c = (spelled-more others c.0, c.1)
   core-more (string r) bytes h c = begun-more (λ t p. p) c
+  core-more (number at) bytes h c = begun-more (λ t p. p) c
   core-more behind bytes h c = spelled-more others c
 
   pub written-more : (s : Shape) (bytes : List ℕ) (d : PlainDraft) → Written names (Core names s) bytes d → Written (names ++ others) (Core (names ++ others) s) bytes d

@@ -38,8 +38,8 @@ SpelledForestIsUnique =
     (names : List (List ℕ)) (bytes : List ℕ) (v w : Plain) →
     Spells names bytes v → Spells names bytes w → v ≡ w
 
--- what bytes spell over a table is a forest over it: its labels are labels of the table, and its
--- texts are characters
+-- what bytes spell over a table is a forest over it: its labels are labels of the table, its texts
+-- are characters, and its numbers have 64 bits
 abbrev pub SpelledForestIsOverTable : Type 0
 SpelledForestIsOverTable =
     (names : List (List ℕ)) (bytes : List ℕ) (v : Plain) →

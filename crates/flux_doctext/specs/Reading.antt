@@ -2,9 +2,12 @@
 use Rattle.std.specs.Prelude.{ℕ, Bool, true, false, ◌==◌, List, [], ◌∷◌, ◌++◌, Option, Some, None, codes, bytes_eq, if◌then◌else◌}
 use Rattle.std.proofs.Common.{zero, suc}
 use Rattle.flux_atom.specs.declared.atom.Atom.{Atom}
-use Rattle.flux_atom.specs.declared.atom.Atom.TheVariants.{Bool as Truth, Text}
+use Rattle.flux_atom.specs.declared.atom.Atom.TheVariants.{Bool as Truth, Text, Int as Number}
 use Rattle.flux_atom.specs.Names.{begins_name, continues_name, with_text}
+use Rattle.flux_atom.specs.declared.number.NumberState.{NumberState}
+use Rattle.flux_atom.specs.declared.number.NumberState.TheVariants.{Minus, Digits}
 use Rattle.flux_atom.specs.Literal.{quote}
+use Rattle.flux_atom.specs.NumberSteps.{number_begin, number_step}
 use Rattle.flux_atom.specs.TextSteps.{TextStep, on, closes, misfits, TextRead, text_step, no_text}
 use Rattle.flux_trees.specs.Hedge.{nil, leaf}
 use Rattle.flux_trees.specs.Draft.{Draft, add, begin, end}
@@ -40,6 +43,8 @@ pub data Shape : Type 0 where
   closed : Shape
   -- in a string
   string : TextRead → Shape
+  -- in a number, or at its end
+  number : NumberState → Shape
   -- behind a tree
   behind : Shape
 
@@ -60,11 +65,17 @@ abbrev pub told : Event → Step → Step
 told e None = None
 told e (Some s) = Some (s.0, e ∷ s.1)
 
+-- the first byte of a number
+abbrev pub begin_step : Option NumberState → Step
+begin_step (Some s) = Some (number s, [])
+begin_step None = None
+
 -- where a tree is awaited, or a forest: white space leads nowhere
 abbrev pub tree_step : Shape → ℕ → Sign → Step
 tree_step stay b Space = Some (stay, [])
 tree_step stay b Quote = Some (string no_text, [])
 tree_step stay b Letter = Some (name (b ∷ []), [])
+tree_step stay b Digit = begin_step (number_begin b)
 tree_step stay b _ = None
 
 -- the end of an element, where one is open
@@ -126,6 +137,16 @@ string_step r (on state added) = Some (string (state, r.1 ++ added), [])
 string_step r closes = Some (behind, push (Text r.1) ∷ [])
 string_step r misfits = None
 
+-- a byte behind a number, which may not end behind `-`
+abbrev pub numbered_step : NumberState → ℕ → Sign → Step
+numbered_step Minus n s = None
+numbered_step (Digits z) n s = told (push (Number z)) (behind_step n s)
+
+-- in a number, whose digits are taken as long as possible
+abbrev pub digit_step : NumberState → Option NumberState → ℕ → Sign → Step
+digit_step at (Some to) n s = Some (number to, [])
+digit_step at None n s = numbered_step at n s
+
 -- a byte where so many elements are open
 abbrev pub step : Shape → ℕ → ℕ → Step
 step content n b = content_step n b (sign_of b)
@@ -135,6 +156,7 @@ step (label text) n b = label_step text (sign_of b)
 step opened n b = opened_step (sign_of b)
 step closed n b = closed_step n (sign_of b)
 step (string r) n b = string_step r (text_step r.0 b)
+step (number at) n b = digit_step at (number_step at b) n (sign_of b)
 step behind n b = behind_step n (sign_of b)
 
 -- a text may end behind a name that is an atom
@@ -142,9 +164,15 @@ abbrev pub end_named : Option Atom → Option (List Event)
 end_named (Some atom) = Some (push atom ∷ [])
 end_named None = None
 
+-- and behind a number
+abbrev pub end_numbered : NumberState → Option (List Event)
+end_numbered Minus = None
+end_numbered (Digits z) = Some (push (Number z) ∷ [])
+
 -- what the end of the text tells; none where the text may not end
 abbrev pub end_step : Shape → Option (List Event)
 end_step (name text) = end_named (truth_of text)
+end_step (number at) = end_numbered at
 end_step closed = Some []
 end_step behind = Some []
 end_step _ = None

@@ -5,8 +5,8 @@ use Rattle.flux_atom.specs.Names.{continues_name, name_text, IsName, IsTable}
 use Rattle.flux_atom.specs.TextSteps.{TextRead, no_text, read_text}
 use Rattle.flux_trees.specs.Draft.{depth}
 use Rattle.flux_doctext.specs.declared.reader.State.{State}
-use Rattle.flux_doctext.specs.declared.reader.State.TheVariants.{Content, Tree, Name, Label, Opened, Closed, Text, Behind}
-use Rattle.flux_doctext.specs.Reading.{Shape, content, next, name, label, opened, closed, string, behind, Event, Step, PlainDraft, draft_after, names_after, end_fits}
+use Rattle.flux_doctext.specs.declared.reader.State.TheVariants.{Content, Tree, Name, Label, Opened, Closed, Text, Number, Behind}
+use Rattle.flux_doctext.specs.Reading.{Shape, content, next, name, label, opened, closed, string, number, behind, Event, Step, PlainDraft, draft_after, names_after, end_fits}
 
 -- where the reader is, its label read through the table
 abbrev pub shape_of : List (List ℕ) → State → Shape
@@ -17,6 +17,7 @@ shape_of names (Label a) = label (name_text names a)
 shape_of names Opened = opened
 shape_of names Closed = closed
 shape_of names (Text r) = string r
+shape_of names (Number at) = number at
 shape_of names Behind = behind
 
 -- its token is the beginning of one

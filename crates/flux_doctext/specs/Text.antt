@@ -1,9 +1,12 @@
 -- The canonical text of a forest, whose labels are read through a table of names.
-use Rattle.std.specs.Prelude.{◌≡◌, ℕ, List, [], ◌++◌, codes, IsUtf8, IsSomeAnd, slice_get}
+use Rattle.std.specs.Prelude.{◌≡◌, ℕ, List, [], ◌++◌, codes, IsSomeAnd, slice_get}
+use Rattle.std.specs.Int.{w64}
+use Rattle.std.specs.Int.RustNames.{FitsSigned}
 use Rattle.flux_atom.specs.declared.atom.Atom.{Atom}
-use Rattle.flux_atom.specs.declared.atom.Atom.TheVariants.{Bool, Text}
+use Rattle.flux_atom.specs.declared.atom.Atom.TheVariants.{Bool as Truth, Text, Int as Number}
 use Rattle.flux_atom.specs.Names.{IsLabel, IsTable}
 pub use Rattle.flux_atom.specs.Names.{name_text}
+pub use Rattle.flux_atom.specs.ReadLiteral.{IsProper}
 use Rattle.flux_atom.specs.Literal.{literal}
 use Rattle.flux_trees.specs.Hedge.{Plain, nil, elem, leaf}
 use Rattle.flux_trees.specs.Each.{EachLabel, EachAtom}
@@ -31,21 +34,23 @@ text names h = trees_text names h
 abbrev pub NamesLabel : List (List ℕ) → ℕ → Type 0
 NamesLabel names a = IsSomeAnd (slice_get names a) IsLabel
 
--- a text is characters in UTF-8
-abbrev pub IsProper : Atom → Type 0
-IsProper (Bool b) = Unit {0}
-IsProper (Text text) = IsUtf8 text
-
--- a forest over a table: the text of each label is a label, and each text is characters
+-- a forest over a table: the text of each label is a label, and each atom is as memory has it
 pub record IsForestOver (names : List (List ℕ)) (h : Plain) : Type 0 where
   pub table : IsTable names
   pub labels : EachLabel (NamesLabel names) h
   pub atoms : EachAtom IsProper h
 
--- where the text of each label is a label, the canonical text of a forest is that of no other
--- forest
+-- a number has 64 bits; truth values and texts are any
+abbrev pub HasRange : Atom → Type 0
+HasRange (Truth b) = Unit {0}
+HasRange (Text text) = Unit {0}
+HasRange (Number z) = FitsSigned w64 z
+
+-- where the text of each label is a label and each number has 64 bits, the canonical text of a
+-- forest is that of no other such forest
 abbrev pub TextTellsForest : Type 0
 TextTellsForest =
     (names : List (List ℕ)) → IsTable names → (v w : Plain) →
     EachLabel (NamesLabel names) v → EachLabel (NamesLabel names) w →
+    EachAtom HasRange v → EachAtom HasRange w →
     text names v ≡ text names w → v ≡ w

@@ -2,13 +2,14 @@
 ghost use Rattle.std.specs.Prelude.{◌≡◌, ◌+◌, ◌-◌, ◌^◌, ◌<◌, ◌≤◌, ℕ, List, [], ◌∷◌, ◌++◌, Some, length, take, IfOk, IfSome, IfNone, string_bytes};
 ghost use Rattle.std.specs.List.{AllPass};
 ghost use Rattle.flux_atom.specs.Names.{continues_name, name_text, IsName, IsTable};
+ghost use Rattle.flux_atom.specs.NumberSteps.{number_step};
 ghost use Rattle.flux_atom.specs.TextSteps.{no_text, read_text, text_step};
 ghost use Rattle.flux_trees.specs.Draft.{Draft, depth};
-ghost use Rattle.flux_doctext.specs.Reading.{behind_step, close_step, closed_step, content_step, end_named, end_step, label_step, name_step, named_step, opened_step, sign_of, step, string_step, tree_step, truth_of};
+ghost use Rattle.flux_doctext.specs.Reading.{behind_step, close_step, closed_step, content_step, digit_step, end_named, end_numbered, end_step, label_step, name_step, named_step, numbered_step, opened_step, sign_of, step, string_step, tree_step, truth_of};
 ghost use Rattle.flux_doctext.specs.Steps.{shape_of, Ends, Follows, HasGrown, IsSound, Passes};
 
 use crate::sign::Sign;
-use flux_atom::{Atom, Name, Names, Taken, TextReader, can_continue};
+use flux_atom::{Atom, Name, Names, NumberState, Taken, TextReader, can_continue};
 use flux_forest::Forest;
 use std::alloc::{AllocError, Global};
 
@@ -29,6 +30,8 @@ pub(crate) enum State {
     Closed,
     // In a string.
     Text(TextReader),
+    // In a number, or at its end.
+    Number(NumberState),
     // Behind a tree.
     Behind,
 }
@@ -59,6 +62,7 @@ pub(crate) fn step(
         State::Opened => Ok(in_parentheses(sign)),
         State::Closed => Ok(behind_parentheses(sign, forest)),
         State::Text(text) => in_text(text, byte, forest),
+        State::Number(number) => in_number(number, sign, byte, forest),
         State::Behind => Ok(behind_tree(sign, forest)),
     }
 }
@@ -93,6 +97,10 @@ fn at_tree(alloc: Global, state: State, sign: Sign, byte: u8) -> Result<Option<S
             let text = longer(String::new(alloc), byte)?;
             Ok(Some(State::Name(text)))
         }
+        Sign::Digit => match NumberState::begin(byte) {
+            Some(number) => Ok(Some(State::Number(number))),
+            None => Ok(None),
+        },
         _ => Ok(None),
     }
 }
@@ -217,6 +225,40 @@ fn in_text(mut text: TextReader, byte: u8, forest: &mut Forest) -> Result<Option
     }
 }
 
+// The number ends before the first byte that it doesn't go on with.
+fn in_number(
+    number: NumberState,
+    sign: Sign,
+    byte: u8,
+    forest: &mut Forest,
+) -> Result<Option<State>, AllocError>
+    ensures { (names : List (List ℕ)) → IfOk result (Follows names
+        (digit_step number (number_step number byte) (depth forest.old) sign)
+        forest.old names forest.new) }
+{
+    match number.step(byte) {
+        Some(longer) => Ok(Some(State::Number(longer))),
+        None => behind_number(number, sign, forest),
+    }
+}
+
+fn behind_number(
+    number: NumberState,
+    sign: Sign,
+    forest: &mut Forest,
+) -> Result<Option<State>, AllocError>
+    ensures { (names : List (List ℕ)) → IfOk result (Follows names
+        (numbered_step number (depth forest.old) sign) forest.old names forest.new) }
+{
+    match number {
+        NumberState::Minus => Ok(None),
+        NumberState::Digits(value) => {
+            forest.push_atom(Atom::Int(value))?;
+            Ok(behind_tree(sign, forest))
+        }
+    }
+}
+
 fn behind_tree(sign: Sign, forest: &mut Forest) -> Option<State>
     ensures { (names : List (List ℕ))
         → Follows names (behind_step (depth forest.old) sign) forest.old names forest.new result }
@@ -276,6 +318,7 @@ pub(crate) fn end(state: State, forest: &mut Forest) -> Result<bool, AllocError>
 {
     match state {
         State::Name(text) => end_name(text.as_str(), forest),
+        State::Number(number) => end_number(number, forest),
         State::Closed | State::Behind => Ok(forest.is_whole()),
         _ => Ok(false),
     }
@@ -289,6 +332,18 @@ fn end_name(text: &str, forest: &mut Forest) -> Result<bool, AllocError>
     };
     forest.push_atom(Atom::Bool(truth))?;
     Ok(forest.is_whole())
+}
+
+fn end_number(number: NumberState, forest: &mut Forest) -> Result<bool, AllocError>
+    ensures { IfOk result (Ends (end_numbered number) forest.old forest.new) }
+{
+    match number {
+        NumberState::Minus => Ok(false),
+        NumberState::Digits(value) => {
+            forest.push_atom(Atom::Int(value))?;
+            Ok(forest.is_whole())
+        }
+    }
 }
 
 // The truth value that a name is, if it is one.

@@ -15,7 +15,7 @@ pub(crate) enum Sign {
     Quote,
     // It may begin a name.
     Letter,
-    // It may stand in a name, and begins none.
+    // It may stand in a name, and begins none: a digit, `.` or `-`.
     Digit,
     // It stands in strings alone.
     Other,

@@ -29,6 +29,7 @@ fn is_same_atom(atom: &Atom, other: &Atom) -> bool
     match (atom, other) {
         (Atom::Bool(truth), Atom::Bool(other)) => truth == other,
         (Atom::Text(word), Atom::Text(other)) => word.as_str() == other.as_str(),
+        (Atom::Int(number), Atom::Int(other)) => number == other,
         _ => false,
     }
 }

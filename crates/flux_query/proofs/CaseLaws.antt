@@ -1,12 +1,12 @@
 -- That the queries which are tried by hand have values.
 use Rattle.std.proofs.Common.{Option, Some, None, IsSome, [], ◌∷◌, List, refl}
 use Rattle.flux_trees.specs.Hedge.{Plain, nil, elem, leaf, join, trees}
-use Rattle.std.specs.Prelude.{ℕ, Bool, true, false}
+use Rattle.std.specs.Prelude.{ℕ, ℤ, Bool, true, false}
 use Rattle.flux_atom.specs.declared.atom.Atom.{Atom}
-use Rattle.flux_atom.specs.declared.atom.Atom.TheVariants.{Bool as Truth, Text}
+use Rattle.flux_atom.specs.declared.atom.Atom.TheVariants.{Bool as Truth, Text, Int}
 use Rattle.flux_calculus.specs.declared.ask.Test.{Test}
 use Rattle.flux_calculus.specs.declared.ask.Var.TheVariants.{Made}
-use Rattle.flux_calculus.specs.Query.{and_value, value, value_each, nothing, both, element, variable, literal, binding, choice, alike, child, filter, each}
+use Rattle.flux_calculus.specs.Query.{and_value, value, value_each, nothing, both, element, variable, literal, binding, choice, alike, less, child, filter, each}
 use Rattle.flux_query.specs.Cases.{HasValue, start}
 
 both_some : (o p : Option Plain) → IsSome o → IsSome p → IsSome (and_value o (λ v. and_value p (λ w. Some (join v w))))
@@ -27,6 +27,12 @@ all_inside v = each_tree (λ u. value ((Made 1, u) ∷ (Made 0, v) ∷ []) (chil
 
 pub compared : (t : List ℕ) (b : Bool) → HasValue (alike start (variable start (Made 0)) (both start (literal start (Text t)) (both start (literal start (Truth b)) (nothing start))))
 compared t b v = refl
+
+pub ordered : (y z : ℤ) → HasValue (less start (literal start (Int y)) (literal start (Int z)))
+ordered y z v = refl
+
+pub number_pair : (y z : ℤ) → HasValue (alike start (literal start (Int y)) (literal start (Int z)))
+number_pair y z v = refl
 
 pub twice : (t : List ℕ) (b : Bool) → HasValue (each start (Made 1) (both start (literal start (Text t)) (both start (literal start (Truth b)) (nothing start))) (both start (variable start (Made 1)) (both start (variable start (Made 1)) (nothing start))))
 twice t b v = refl
@@ -53,4 +59,4 @@ alone b v = refl
 pub wrapped : (n : ℕ) → HasValue (element start n (variable start (Made 0)))
 wrapped n v = refl
 
-pub ruleset cases = (wrapped, labelled_inside, all_inside, compared, twice, passing, hidden, chosen, joined, empty, alone)
+pub ruleset cases = (wrapped, labelled_inside, all_inside, compared, ordered, number_pair, twice, passing, hidden, chosen, joined, empty, alone)

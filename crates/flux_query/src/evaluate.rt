@@ -7,7 +7,7 @@ ghost use Rattle.flux_query.specs.Read.{query_of, queries_of};
 ghost use Rattle.flux_query.specs.Added.{added, in_element, value_under, values_under};
 ghost use Rattle.flux_query.specs.Values.{trees_of, IsWholeValue};
 
-use crate::trees::{push_passing, push_same, truth};
+use crate::trees::{push_less, push_passing, push_same, truth};
 use crate::value::{Value, bound, inside};
 use crate::{Env, Query};
 use flux_atom::Name;
@@ -73,6 +73,11 @@ fn push_value(
             let left = read(alloc, left.get(), env)?;
             let right = read(alloc, right.get(), env)?;
             push_same(left.view(env), right.view(env), values)
+        }
+        Query::Less(left, right, _) => {
+            let left = read(alloc, left.get(), env)?;
+            let right = read(alloc, right.get(), env)?;
+            push_less(left.view(env), right.view(env), values)
         }
         Query::Filter(from, test, _) => {
             let from = read(alloc, from.get(), env)?;

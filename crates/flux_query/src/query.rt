@@ -18,6 +18,8 @@ pub enum Query {
     If(Boxed<Query>, Boxed<Query>, Boxed<Query>, Span),
     /// Whether two queries have the same value.
     Same(Boxed<Query>, Boxed<Query>, Span),
+    /// Whether the number that the first query gives is less than that of the second.
+    Less(Boxed<Query>, Boxed<Query>, Span),
     /// What the one tree of the variable contains.
     Child(Var, Span),
     /// The trees of a query that pass the test.

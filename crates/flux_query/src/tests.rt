@@ -2,9 +2,9 @@
 ghost use Rattle.std.specs.Prelude.{◌≡◌, ◌∷◌, [], IsSome, IfOk};
 ghost use Rattle.flux_trees.specs.Hedge.{Plain};
 ghost use Rattle.flux_trees.specs.Draft.{depth};
-ghost use Rattle.flux_atom.specs.declared.atom.Atom.TheVariants.{Bool, Text as Words};
+ghost use Rattle.flux_atom.specs.declared.atom.Atom.TheVariants.{Bool, Text as Words, Int};
 ghost use Rattle.flux_calculus.specs.declared.ask.Var.TheVariants.{Made};
-ghost use Rattle.flux_calculus.specs.Query.{value, element, variable, literal, binding, choice, alike, child, filter, each};
+ghost use Rattle.flux_calculus.specs.Query.{value, element, variable, literal, binding, choice, alike, less, child, filter, each};
 ghost use Rattle.flux_query.specs.Read.{query_of, queries_of};
 ghost use Rattle.flux_query.specs.Cases.{HasValue, start};
 
@@ -22,9 +22,10 @@ enum Step<'a> {
     End,
     Truth(bool),
     Text(&'a str),
+    Number(i64),
 }
 
-use Step::{Begin, End, Text, Truth};
+use Step::{Begin, End, Number, Text, Truth};
 
 fn built(rt: &impl Abort, alloc: Global, steps: &[Step<'_>]) -> Result<Forest, Fail>
     ensures { IfOk result (λ forest. depth forest ≡ 0) }
@@ -39,6 +40,7 @@ fn built(rt: &impl Abort, alloc: Global, steps: &[Step<'_>]) -> Result<Forest, F
             }
             Truth(truth) => forest.push_atom(Atom::Bool(*truth))?,
             Text(text) => forest.push_atom(Atom::Text(Word::of(alloc, text)?))?,
+            Number(number) => forest.push_atom(Atom::Int(*number))?,
         }
     }
     assert!(rt; forest.is_whole());
@@ -80,6 +82,12 @@ fn text(alloc: Global, text: &str) -> Result<Query, AllocError>
     Ok(Query::Lit(Atom::Text(Word::of(alloc, text)?), nowhere()))
 }
 
+fn number(number: i64) -> Query
+    ensures { query_of result ≡ literal start (Int number) }
+{
+    Query::Lit(Atom::Int(number), nowhere())
+}
+
 fn list(parts: Vec<Query>) -> Query
     ensures { query_of result ≡ queries_of start parts.items }
 {
@@ -113,6 +121,16 @@ fn same(alloc: Global, left: Query, right: Query) -> Result<Query, AllocError>
     ensures { IfOk result (λ q. query_of q ≡ alike start (query_of left) (query_of right)) }
 {
     Ok(Query::Same(
+        Boxed::new(alloc, left)?,
+        Boxed::new(alloc, right)?,
+        nowhere(),
+    ))
+}
+
+fn is_less(alloc: Global, left: Query, right: Query) -> Result<Query, AllocError>
+    ensures { IfOk result (λ q. query_of q ≡ less start (query_of left) (query_of right)) }
+{
+    Ok(Query::Less(
         Boxed::new(alloc, left)?,
         Boxed::new(alloc, right)?,
         nowhere(),
@@ -187,6 +205,24 @@ fn is_text_and_truth(alloc: Global) -> Result<Query, AllocError>
 {
     let parts = list(vec![in alloc; text(alloc, "T")?, truth(true)]?);
     let query = same(alloc, var(0), parts)?;
+    Ok(query)
+}
+
+// whether one number is less than another
+#[tactic(auto, using(crate::proofs::CaseLaws::cases))]
+fn ordered(alloc: Global, left: i64, right: i64) -> Result<Query, AllocError>
+    ensures { IfOk result (λ q. HasValue (query_of q)) }
+{
+    let query = is_less(alloc, number(left), number(right))?;
+    Ok(query)
+}
+
+// whether two numbers are the same
+#[tactic(auto, using(crate::proofs::CaseLaws::cases))]
+fn number_pair(alloc: Global, left: i64, right: i64) -> Result<Query, AllocError>
+    ensures { IfOk result (λ q. HasValue (query_of q)) }
+{
+    let query = same(alloc, number(left), number(right))?;
     Ok(query)
 }
 
@@ -344,7 +380,43 @@ fn goes_over_atoms(rt: HostRuntime) -> Result<(), Fail> {
     gives(&rt, alloc, &[], &twice(alloc)?, &wanted)
 }
 
-// What passes of an element a with "A" in it, "T", an element b and a truth value.
+#[test]
+fn compares_numbers(rt: HostRuntime) -> Result<(), Fail> {
+    let alloc = rt.alloc();
+    for (left, right, less) in [
+        (i64::MIN, i64::MAX, true),
+        (i64::MAX, i64::MIN, false),
+        (i64::MIN, i64::MIN, false),
+        (-1, 0, true),
+        (7, 7, false),
+    ] {
+        gives(
+            &rt,
+            alloc,
+            &[],
+            &ordered(alloc, left, right)?,
+            &[Truth(less)],
+        )?;
+        let same = left == right;
+        gives(
+            &rt,
+            alloc,
+            &[],
+            &number_pair(alloc, left, right)?,
+            &[Truth(same)],
+        )?;
+    }
+    let query = is_text_and_truth(alloc)?;
+    gives(
+        &rt,
+        alloc,
+        &[Number(1), Truth(true)],
+        &query,
+        &[Truth(false)],
+    )
+}
+
+// What passes of an element a with "A" in it, "T", an element b, a truth value and a number.
 fn passes(
     rt: &impl Abort,
     alloc: Global,
@@ -361,6 +433,7 @@ fn passes(
         Begin(b),
         End,
         Truth(true),
+        Number(-7),
     ];
     let query = passing(alloc, test)?;
     gives(rt, alloc, &steps, &query, wanted)
@@ -373,6 +446,9 @@ fn filters_elements(rt: HostRuntime) -> Result<(), Fail> {
     let a = name(&rt, &mut names, "a")?;
     let b = name(&rt, &mut names, "b")?;
     passes(&rt, alloc, (a, b), Test::Label(b), &[Begin(b), End])?;
+    let texts = [Begin(a), Text("1"), End, Begin(b), Text("2"), End];
+    let query = passing(alloc, Test::Label(a))?;
+    gives(&rt, alloc, &texts, &query, &[Begin(a), Text("1"), End])?;
     let elements = [Begin(a), Text("A"), End, Begin(b), End];
     passes(&rt, alloc, (a, b), Test::AnyElement, &elements)
 }
@@ -383,7 +459,8 @@ fn filters_atoms(rt: HostRuntime) -> Result<(), Fail> {
     let mut names = Names::new(alloc);
     let a = name(&rt, &mut names, "a")?;
     passes(&rt, alloc, (a, a), Test::OfText, &[Text("T")])?;
-    passes(&rt, alloc, (a, a), Test::OfBool, &[Truth(true)])
+    passes(&rt, alloc, (a, a), Test::OfBool, &[Truth(true)])?;
+    passes(&rt, alloc, (a, a), Test::OfInt, &[Number(-7)])
 }
 
 #[test]

@@ -6,7 +6,8 @@ ghost use Rattle.flux_atom.specs.declared.atom.Atom.TheVariants.{Bool};
 ghost use Rattle.flux_trees.specs.Draft.{add};
 ghost use Rattle.flux_forest.specs.View.{forest_of};
 ghost use Rattle.flux_calculus.specs.Tests.{matches};
-ghost use Rattle.flux_calculus.specs.Query.{truth_of, content_of_one, passing};
+ghost use Rattle.flux_calculus.specs.Query.{truth_of, number_of, compared, content_of_one, passing};
+ghost use Rattle.flux_query.specs.Added.{added};
 
 use flux_atom::Atom;
 use flux_calculus::Test;
@@ -20,6 +21,17 @@ pub(crate) fn truth(view: View<'_>) -> bool
 {
     match view.head() {
         Head::Atom(Atom::Bool(truth)) => *truth,
+        _ => unreachable!(),
+    }
+}
+
+// The number that a run is.
+fn number(view: View<'_>) -> i64
+    requires { IsSome (number_of (forest_of view)) }
+    ensures { number_of (forest_of view.entry) ≡ Some result }
+{
+    match view.head() {
+        Head::Atom(Atom::Int(number)) => *number,
         _ => unreachable!(),
     }
 }
@@ -41,6 +53,7 @@ fn passes(test: &Test, view: View<'_>) -> bool
         (Test::AnyElement, First::Elem(_)) => true,
         (Test::OfText, First::Atom(Atom::Text(_))) => true,
         (Test::OfBool, First::Atom(Atom::Bool(_))) => true,
+        (Test::OfInt, First::Atom(Atom::Int(_))) => true,
         _ => false,
     }
 }
@@ -55,6 +68,21 @@ pub(crate) fn push_same(
         OnOk result (values.new ≡ add values.old (leaf tt (Bool truth) nil)) }
 {
     values.push_atom(Atom::Bool(left.equal(right)))?;
+    Ok(())
+}
+
+// Adds whether the number that one run is is less than that of another.
+pub(crate) fn push_less(
+    left: View<'_>,
+    right: View<'_>,
+    values: &mut Forest,
+) -> Result<(), AllocError>
+    requires { IsSome (compared (number_of (forest_of left)) (number_of (forest_of right))) }
+    ensures { let less = compared (number_of (forest_of left.entry))
+        (number_of (forest_of right.entry)) in
+        OnOk result (added values.old less ≡ Some values.new) }
+{
+    values.push_atom(Atom::Bool(number(left) < number(right)))?;
     Ok(())
 }
 

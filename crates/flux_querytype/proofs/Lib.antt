@@ -6,3 +6,4 @@ pub mod Left
 pub mod MapLaws
 pub mod Typed
 pub mod Shown
+pub mod Lacking

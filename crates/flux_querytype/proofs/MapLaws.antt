@@ -1,10 +1,11 @@
 -- The maps of the rules of typing are maps over a type.
-use Rattle.std.proofs.Common.{◌≡◌, ◌∷◌, ℕ, List, subst, Result}
+use Rattle.std.proofs.Common.{◌≡◌, ◌∷◌, ℕ, Bool, true, false, List, sym, subst, Result, if◌then◌else◌}
+use Rattle.flux_trees.specs.Draft.{Draft}
 use Rattle.flux_schema.specs.Ty.{Ty}
 use Rattle.flux_schema.specs.Definitions.{Definitions}
-use Rattle.flux_calculus.specs.Fault.{Fault}
+use Rattle.flux_calculus.specs.Fault.{Fault, too_large}
 use Rattle.flux_calculus.specs.Typing as rule
-use Rattle.flux_calculus.specs.Typing.{Context, Treatment, Outcome, typed, faulty, concluded, IsAtomic, of_query, of_map, returning, keeping, kept, Types}
+use Rattle.flux_calculus.specs.Typing.{Context, Treatment, Outcome, typed, faulty, is_within, concluded, IsAtomic, of_query, of_map, returning, keeping, kept, Types}
 use Rattle.flux_core.specs.declared.fault.KindFault.{KindFault}
 use Rattle.flux_core.specs.declared.measured.Measured.{Measured}
 use Rattle.flux_core.specs.Answers.{IsAnswer}
@@ -13,23 +14,26 @@ use Rattle.flux_core.specs.Walk.{Frame, AreToBeUsed}
 use Rattle.flux_core.proofs.Replies.{answer_carried}
 
 -- what comes of a tree: the type of a query with a variable of it, or what a test leaves of it
-abbrev pub Treated : Definitions → Treatment → Ty → Outcome → Type 0
-Treated defs (returning Γ x q) a o = Types defs (of_query ((x, a) ∷ Γ) q) o
-Treated defs (keeping p) a o = typed (kept p a) ≡ o
+abbrev pub Treated : Definitions → ℕ → Treatment → Ty → Outcome → Type 0
+Treated defs at (returning Γ x q) a o = Types defs (of_query ((x, a) ∷ Γ) q) o
+Treated defs at (keeping p) a o = concluded at (kept p a) ≡ o
 
 module _ (defs : Definitions) (at : ℕ) where
-  tree : (f : Treatment) (a t : Ty) (o : Outcome) → IsAtomic a → Treated defs f a (typed t) → concluded at t ≡ o → Types defs (of_map at f a) o
+  concluded_by : (n : ℕ) (b : Bool) (t u : Ty) → (if b then typed t else faulty (too_large n)) ≡ typed u → t ≡ u
+  concluded_by n true t u e = cc
+  concluded_by n false t u e = cc
+
+  tree : (f : Treatment) (a t : Ty) (o : Outcome) → IsAtomic a → Treated defs at f a (typed t) → concluded at t ≡ o → Types defs (of_map at f a) o
   tree (returning Γ x q) a t o i r c = rule.returns i r c
   tree (keeping p) a t o i r c =
       let P : Ty → Type 0 = λ w. concluded at w ≡ o in
-      let same : t ≡ kept p a = cc in
-      rule.keeps i (subst P same c)
+      rule.keeps i (subst P (sym (concluded_by at (is_within (kept p a)) (kept p a) t r)) c)
 
-  fault_tree : (f : Treatment) (a : Ty) (e : Fault) → IsAtomic a → Treated defs f a (faulty e) → Types defs (of_map at f a) (faulty e)
+  fault_tree : (f : Treatment) (a : Ty) (e : Fault) → IsAtomic a → Treated defs at f a (faulty e) → Types defs (of_map at f a) (faulty e)
   fault_tree (returning Γ x q) a e i r = rule.body_of_each i r
-  fault_tree (keeping p) a e i r = cc
+  fault_tree (keeping p) a e i r = rule.keeps i r
 
-  pub mapped : (f : Treatment) {t : Ty} {o : Outcome} → Mapped defs (Treated defs f) at t o → Types defs (of_map at f t) o
+  pub mapped : (f : Treatment) {t : Ty} {o : Outcome} → Mapped defs (Treated defs at f) at t o → Types defs (of_map at f t) o
   mapped f (of_tree {a} {t} {o} i r c) = tree f a t o i r c
   mapped f (fault_of_tree {a} {f = e} i r) = fault_tree f a e i r
   mapped f of_empty = rule.of_empty
@@ -43,11 +47,11 @@ module _ (defs : Definitions) (at : ℕ) where
   mapped f (inside_of_star m) = rule.inside_of_star (mapped f m)
   mapped f (of_name e m) = rule.of_name e (mapped f m)
 
-  pub answer_mapped : (f : Treatment) (t : Ty) (r : Result Measured KindFault) → IsAnswer defs (Mapped defs (Treated defs f) at t) r → IsAnswer defs (Types defs (of_map at f t)) r
-  answer_mapped f t r h =
-      let P : Outcome → Type 0 = λ o. Mapped defs (Treated defs f) at t o in
+  pub answer_mapped : (S : Ty → Ty → Draft (Unit {0}) → Type 0) (f : Treatment) (t : Ty) (r : Result Measured KindFault) → IsAnswer S (Mapped defs (Treated defs at f) at t) r → IsAnswer S (Types defs (of_map at f t)) r
+  answer_mapped S f t r h =
+      let P : Outcome → Type 0 = λ o. Mapped defs (Treated defs at f) at t o in
       let Q : Outcome → Type 0 = λ o. Types defs (of_map at f t) o in
-      answer_carried defs P Q r (λ o m. mapped f m) h
+      answer_carried S P Q r (λ o m. mapped f m) h
 
 -- what waits under the same definitions
 pub waiting_as : (defs defs' : Definitions) (fs : List Frame) → defs' ≡ defs → AreToBeUsed defs' fs → AreToBeUsed defs fs

@@ -5,11 +5,11 @@ use Rattle.flux_calculus.specs.declared.ask.Test.{Test}
 use Rattle.flux_calculus.specs.declared.ask.Var.{Var as Variable}
 use Rattle.flux_calculus.specs.declared.ask.Span.{Span}
 use Rattle.flux_calculus.specs.Query as calculus
-use Rattle.flux_calculus.specs.Query.{nothing, both, element, literal, variable, binding, choice, alike, child, filter, each, place_of}
+use Rattle.flux_calculus.specs.Query.{nothing, both, element, literal, variable, binding, choice, alike, less, child, filter, each, place_of}
 use Rattle.flux_query.specs.declared.query.Query.{Query}
 use Rattle.flux_query.specs.declared.query.Query.TheOpen.{Query-F}
 use Rattle.flux_query.specs.declared.query.Query.TheFolds.{fold-roll-Query}
-use Rattle.flux_query.specs.declared.query.Query.TheVariants.{Concat, Elem, Lit, Var, Let, If, Same, Child, Filter, For, rolls-Concat, rolls-Elem, rolls-Lit, rolls-Var, rolls-Let, rolls-If, rolls-Same, rolls-Child, rolls-Filter, rolls-For}
+use Rattle.flux_query.specs.declared.query.Query.TheVariants.{Concat, Elem, Lit, Var, Let, If, Same, Less, Child, Filter, For, rolls-Concat, rolls-Elem, rolls-Lit, rolls-Var, rolls-Let, rolls-If, rolls-Same, rolls-Less, rolls-Child, rolls-Filter, rolls-For}
 use Rattle.flux_query.specs.Read.{listed, query_step, query_of, queries_of}
 
 pub of_concat : (x : Query) (qs : List Query) (s : Span) → x ≡ Concat qs s → query_of x ≡ queries_of s qs
@@ -32,6 +32,9 @@ of_if x c q r d a b s e h f g = ap query_of (e ∙ sym (rolls-If c q r s)) ∙ f
 
 pub of_same : (x q r a b : Query) (s : Span) → x ≡ Same q r s → a ≡ q → b ≡ r → query_of x ≡ alike s (query_of a) (query_of b)
 of_same x q r a b s e f g = ap query_of (e ∙ sym (rolls-Same q r s)) ∙ fold-roll-Query calculus.Query query_step (Query-F.Same q r s) ∙ ap₂ (alike s) (ap query_of (sym f)) (ap query_of (sym g))
+
+pub of_less : (x q r a b : Query) (s : Span) → x ≡ Less q r s → a ≡ q → b ≡ r → query_of x ≡ less s (query_of a) (query_of b)
+of_less x q r a b s e f g = ap query_of (e ∙ sym (rolls-Less q r s)) ∙ fold-roll-Query calculus.Query query_step (Query-F.Less q r s) ∙ ap₂ (less s) (ap query_of (sym f)) (ap query_of (sym g))
 
 pub of_child : (x : Query) (v : Variable) (s : Span) → x ≡ Child v s → query_of x ≡ child s v
 of_child x v s e = ap query_of (e ∙ sym (rolls-Child v s)) ∙ fold-roll-Query calculus.Query query_step (Query-F.Child v s)

@@ -2,7 +2,7 @@
 use Rattle.std.proofs.Common.{ℕ, ◌≡◌, ◌≤◌, ◌+◌, List, [], ◌∷◌, ◌++◌, ap, arith}
 use Rattle.flux_calculus.specs.declared.ask.Span.{Span}
 use Rattle.flux_calculus.specs.Query as calculus
-use Rattle.flux_calculus.specs.Query.{nothing, both, element, literal, variable, binding, choice, alike, child, filter, each}
+use Rattle.flux_calculus.specs.Query.{nothing, both, element, literal, variable, binding, choice, alike, less, child, filter, each}
 use Rattle.flux_query.specs.declared.query.Query.{Query}
 use Rattle.flux_query.specs.Read.{query_of, queries_of}
 
@@ -15,6 +15,7 @@ weight (variable at x) = 1
 weight (binding at x q r) = weight q + weight r + 1
 weight (choice at c q r) = weight c + weight q + weight r + 1
 weight (alike at q r) = weight q + weight r + 1
+weight (less at q r) = weight q + weight r + 1
 weight (child at x) = 1
 weight (filter at q t) = weight q + 1
 weight (each at x q r) = weight q + weight r + 1
@@ -49,6 +50,7 @@ weight_pos (variable at x) = omega arith
 weight_pos (binding at x q r) = omega arith
 weight_pos (choice at c q r) = omega arith
 weight_pos (alike at q r) = omega arith
+weight_pos (less at q r) = omega arith
 weight_pos (child at x) = omega arith
 weight_pos (filter at q t) = omega arith
 weight_pos (each at x q r) = omega arith

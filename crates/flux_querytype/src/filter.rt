@@ -1,16 +1,17 @@
 // The type of the trees that pass a test.
-ghost use Rattle.std.specs.Prelude.{◌≡◌, IfOk};
-ghost use Rattle.flux_schema.specs.Ty.{IsWithinLimits};
+ghost use Rattle.std.specs.Prelude.{◌≡◌, IfOk, if◌then◌else◌};
+ghost use Rattle.flux_schema.specs.Ty.{empty, any_element, IsWithinLimits};
 ghost use Rattle.flux_types.specs.Read.{ty_of};
 ghost use Rattle.flux_types.specs.Kept.{AreKept};
 ghost use Rattle.flux_calculus.specs.Tests.{kind_matches};
-ghost use Rattle.flux_calculus.specs.Typing.{Types, of_map, keeping, type_matches, kept};
-ghost use Rattle.flux_core.specs.Faults.{IsUsable};
-ghost use Rattle.flux_core.specs.Answers.{IsAnswer};
+ghost use Rattle.flux_calculus.specs.Typing.{Types, of_map, keeping, kept, kept_of_any};
+ghost use Rattle.flux_core.specs.Faults.{ShowsNothing, IsUsable};
+ghost use Rattle.flux_core.specs.Answers.{IsAnswer, IsConclusion};
+ghost use Rattle.flux_querytype.specs.Filter.{stays};
 
 use flux_atom::AtomKind;
 use flux_calculus::Test;
-use flux_core::{KindFault, Measured, Turn, Walk, measure, nothing};
+use flux_core::{KindFault, Measured, Turn, Walk, any_one, either, measure, nothing, one_element};
 use flux_types::{Defs, Ty};
 use std::alloc::{AllocError, Global};
 
@@ -24,7 +25,7 @@ pub(crate) fn filtered(
 ) -> Result<Measured, KindFault>
     requires defs { AreKept defs.now }
     requires usable { IsUsable defs.now (ty_of ty) }
-    ensures { IsAnswer defs.now
+    ensures { IsAnswer ShowsNothing
         (Types defs.now (of_map place (keeping test.now) (ty_of ty))) result }
 {
     let mut walk = Walk::new(alloc, place);
@@ -33,36 +34,72 @@ pub(crate) fn filtered(
         turn = match turn {
             Turn::Over(made) => return Ok(made),
             Turn::At(tree) => {
-                let made = passing(alloc, tree, test)?;
+                let made = passing(alloc, place, tree, test)?;
                 walk.put(made, defs)?
             }
         };
     }
 }
 
-// An atom type or an element type, where its trees pass the test.
-fn passing(alloc: Global, ty: Ty, test: &Test) -> Result<Measured, AllocError>
+// What a test leaves of an atom type or an element type, or TypeTooLarge at the place.
+fn passing(alloc: Global, place: u32, ty: Ty, test: &Test) -> Result<Measured, KindFault>
     requires { IsWithinLimits (ty_of ty) }
-    ensures { IfOk result (λ made. ty_of made.ty.value ≡ kept test.now (ty_of ty)) }
+    ensures { IsConclusion place (kept test.now (ty_of ty)) result }
 {
-    if passes(&ty, test) {
+    match ty {
+        Ty::AnyElem(content) => passing_any(alloc, place, content.into_inner(), test),
+        ty => {
+            let made = passing_one(alloc, ty, test)?;
+            Ok(made)
+        }
+    }
+}
+
+// The type where all its trees pass the test, else nothing.
+fn passing_one(alloc: Global, ty: Ty, test: &Test) -> Result<Measured, AllocError>
+    requires { IsWithinLimits (ty_of ty) }
+    ensures { IfOk result (λ made. ty_of made.ty.value
+        ≡ (if stays test.now (ty_of ty) then ty_of ty else empty)) }
+{
+    if stays(&ty, test) {
         measure(alloc, ty)
     } else {
         nothing(alloc)
     }
 }
 
-fn passes(ty: &Ty, test: &Test) -> bool
-    ensures { result ≡ type_matches test.now (ty_of ty.now) }
+// What a test leaves of an element type of any label: a label is undecided there.
+fn passing_any(alloc: Global, place: u32, content: Ty, test: &Test) -> Result<Measured, KindFault>
+    requires { IsWithinLimits (any_element (ty_of content)) }
+    ensures { IsConclusion place (kept_of_any test.now (ty_of content)) result }
+{
+    match test {
+        Test::Label(label) => {
+            let content = measure(alloc, content)?;
+            let labelled = one_element(alloc, place, *label, content)?;
+            either(alloc, place, labelled, nothing(alloc)?)
+        }
+        Test::AnyElement => {
+            let content = measure(alloc, content)?;
+            any_one(alloc, place, content)
+        }
+        Test::OfText | Test::OfBool | Test::OfInt => Ok(nothing(alloc)?),
+    }
+}
+
+fn stays(ty: &Ty, test: &Test) -> bool
+    ensures { result ≡ stays test.now (ty_of ty.now) }
 {
     match ty {
         Ty::Atom(kind) => kind_passes(*kind, test),
         Ty::Elem(label, _) => match test {
             Test::Label(wanted) => label == wanted,
             Test::AnyElement => true,
-            Test::OfText | Test::OfBool => false,
+            Test::OfText | Test::OfBool | Test::OfInt => false,
         },
-        Ty::Empty | Ty::Seq(_, _) | Ty::Alt(_, _) | Ty::Star(_) | Ty::Named(_) => false,
+        Ty::Empty | Ty::AnyElem(_) | Ty::Seq(_, _) | Ty::Alt(_, _) | Ty::Star(_) | Ty::Named(_) => {
+            false
+        }
     }
 }
 
@@ -72,11 +109,15 @@ fn kind_passes(kind: AtomKind, test: &Test) -> bool
     match kind {
         AtomKind::Bool => match test {
             Test::OfBool => true,
-            Test::Label(_) | Test::AnyElement | Test::OfText => false,
+            Test::Label(_) | Test::AnyElement | Test::OfText | Test::OfInt => false,
         },
         AtomKind::Text => match test {
             Test::OfText => true,
-            Test::Label(_) | Test::AnyElement | Test::OfBool => false,
+            Test::Label(_) | Test::AnyElement | Test::OfBool | Test::OfInt => false,
+        },
+        AtomKind::Int => match test {
+            Test::OfInt => true,
+            Test::Label(_) | Test::AnyElement | Test::OfText | Test::OfBool => false,
         },
     }
 }

@@ -4,7 +4,7 @@ ghost use Rattle.flux_types.specs.Kept.{AreKept};
 ghost use Rattle.flux_calculus.specs.Query.{place_of, variable, child};
 ghost use Rattle.flux_calculus.specs.Typing.{Types, of_query};
 ghost use Rattle.flux_query.specs.Read.{query_of};
-ghost use Rattle.flux_core.specs.Faults.{AreUsable};
+ghost use Rattle.flux_core.specs.Faults.{ShowsNothing, AreUsable};
 ghost use Rattle.flux_core.specs.Answers.{IsAnswer};
 
 use flux_calculus::{Span, Var};
@@ -25,6 +25,7 @@ pub(crate) fn place(query: &Query) -> u32
         | Query::Let(_, _, _, span)
         | Query::If(_, _, _, span)
         | Query::Same(_, _, span)
+        | Query::Less(_, _, span)
         | Query::Child(_, span)
         | Query::Filter(_, _, span)
         | Query::For(_, _, _, span) => span.from,
@@ -39,7 +40,7 @@ pub(crate) fn type_variable(
     defs: &Defs,
 ) -> Result<Measured, KindFault>
     requires { AreUsable defs.now gamma.now }
-    ensures { IsAnswer defs.now
+    ensures { IsAnswer ShowsNothing
         (Types defs.now (of_query gamma.now (variable span.now var.now))) result }
 {
     let bound = gamma.get_shared(*var)?;
@@ -59,7 +60,7 @@ pub(crate) fn type_child(
 ) -> Result<Measured, KindFault>
     requires defs { AreKept defs.now }
     requires usable { AreUsable defs.now gamma.now }
-    ensures { IsAnswer defs.now
+    ensures { IsAnswer ShowsNothing
         (Types defs.now (of_query gamma.now (child span.now var.now))) result }
 {
     let Some(ty) = gamma.get(*var) else {
@@ -70,6 +71,7 @@ pub(crate) fn type_child(
     };
     match one {
         Ty::Elem(_, content) => Ok(copied(alloc, content.get())?),
+        Ty::AnyElem(content) => Ok(copied(alloc, content.get())?),
         Ty::Atom(_) => Ok(nothing(alloc)?),
         Ty::Empty | Ty::Seq(_, _) | Ty::Alt(_, _) | Ty::Star(_) | Ty::Named(_) => unreachable!(),
     }

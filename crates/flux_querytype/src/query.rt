@@ -1,13 +1,15 @@
 // The type of a query, or the first fault.
-ghost use Rattle.std.specs.Prelude.{◌∷◌, OnOk, IfErr};
+ghost use Rattle.std.specs.Prelude.{◌≡◌, ◌∷◌, OnOk, IfErr};
+ghost use Rattle.flux_schema.specs.Labels.{Lacks};
 ghost use Rattle.flux_types.specs.Read.{ty_of};
+ghost use Rattle.flux_types.specs.Verdicts.{IsEvidence};
 ghost use Rattle.flux_calculus.specs.declared.ask.Span.{Span as Place};
-ghost use Rattle.flux_calculus.specs.Query.{element, binding, choice, alike, filter, each};
+ghost use Rattle.flux_calculus.specs.Query.{element, binding, choice, alike, less, filter, each};
 ghost use Rattle.flux_calculus.specs.Typing.{Types, of_query, of_map, returning};
 ghost use Rattle.flux_query.specs.Read.{query_of, queries_of};
 ghost use Rattle.flux_core.specs.Faults.{IsFault, IsUsable};
 ghost use Rattle.flux_core.specs.Answers.{IsAnswer};
-ghost use Rattle.flux_querytype.specs.Answers.{Leaves, IsReady, IsAfter, IsTruth, InAnyChoice};
+ghost use Rattle.flux_querytype.specs.Answers.{Leaves, QueryLacks, IsReady, IsAfter, IsTruth, InAnyChoice, IsNumber, InAnyComparison};
 
 use crate::filter::filtered;
 use crate::leaf::{place, type_child, type_variable};
@@ -36,10 +38,11 @@ pub(crate) fn type_of<D: Decider>(
     gamma: &mut Gamma,
     decider: &mut D,
 ) -> Result<Measured, KindFault>
-    requires ready { IsReady (D.definitions decider.old) gamma.old }
+    requires ready { IsReady (D.definitions decider.old) (D.unnamed decider.old) gamma.old }
+    requires query_lacks { QueryLacks (D.unnamed decider.old) (query_of query.now) }
     ensures answer { let defs = D.definitions decider.old in
-        IsAnswer defs (Types defs (of_query gamma.old (query_of query.now))) result }
-    ensures left { Leaves D.definitions D.keeps D.known decider.old decider.new
+        IsAnswer (IsEvidence defs (D.unnamed decider.old)) (Types defs (of_query gamma.old (query_of query.now))) result }
+    ensures left { Leaves D.definitions D.unnamed D.keeps D.known decider.old decider.new
         gamma.old gamma.new }
 {
     match query {
@@ -61,6 +64,7 @@ pub(crate) fn type_of<D: Decider>(
         Query::Same(left, right, _) => {
             type_alike(alloc, left.get(), right.get(), gamma, decider)
         }
+        Query::Less(left, right, _) => { type_less(alloc, left.get(), right.get(), gamma, decider) }
         Query::Child(var, span) => type_child(alloc, var, span, gamma, decider.defs()),
         Query::Filter(from, test, span) => {
             type_filter(alloc, from.get(), test, *span, gamma, decider)
@@ -86,10 +90,11 @@ fn type_all<D: Decider>(
     gamma: &mut Gamma,
     decider: &mut D,
 ) -> Result<Measured, KindFault>
-    requires ready { IsReady (D.definitions decider.old) gamma.old }
+    requires ready { IsReady (D.definitions decider.old) (D.unnamed decider.old) gamma.old }
+    requires queries_lacks { QueryLacks (D.unnamed decider.old) (queries_of span queries.now) }
     ensures answer { let defs = D.definitions decider.old in
-        IsAnswer defs (Types defs (of_query gamma.old (queries_of span queries.now))) result }
-    ensures left { Leaves D.definitions D.keeps D.known decider.old decider.new
+        IsAnswer (IsEvidence defs (D.unnamed decider.old)) (Types defs (of_query gamma.old (queries_of span queries.now))) result }
+    ensures left { Leaves D.definitions D.unnamed D.keeps D.known decider.old decider.new
         gamma.old gamma.new }
 {
     let Some((last, others)) = queries.split_last() else {
@@ -125,11 +130,13 @@ fn type_element<D: Decider>(
     gamma: &mut Gamma,
     decider: &mut D,
 ) -> Result<Measured, KindFault>
-    requires ready { IsReady (D.definitions decider.old) gamma.old }
+    requires ready { IsReady (D.definitions decider.old) (D.unnamed decider.old) gamma.old }
+    requires label { ¬ (label ≡ D.unnamed decider.old) }
+    requires content_lacks { QueryLacks (D.unnamed decider.old) (query_of content.now) }
     ensures answer { let defs = D.definitions decider.old in
-        IsAnswer defs
+        IsAnswer (IsEvidence defs (D.unnamed decider.old))
         (Types defs (of_query gamma.old (element span label (query_of content.now)))) result }
-    ensures left { Leaves D.definitions D.keeps D.known decider.old decider.new
+    ensures left { Leaves D.definitions D.unnamed D.keeps D.known decider.old decider.new
         gamma.old gamma.new }
 {
     let content = type_of(alloc, content, gamma, decider)?;
@@ -145,12 +152,14 @@ fn type_binding<D: Decider>(
     gamma: &mut Gamma,
     decider: &mut D,
 ) -> Result<Measured, KindFault>
-    requires ready { IsReady (D.definitions decider.old) gamma.old }
+    requires ready { IsReady (D.definitions decider.old) (D.unnamed decider.old) gamma.old }
+    requires bound_lacks { QueryLacks (D.unnamed decider.old) (query_of bound.now) }
+    requires body_lacks { QueryLacks (D.unnamed decider.old) (query_of body.now) }
     ensures answer { let defs = D.definitions decider.old in
-        (at : Place) → IsAnswer defs
+        (at : Place) → IsAnswer (IsEvidence defs (D.unnamed decider.old))
         (Types defs (of_query gamma.old
         (binding at var.now (query_of bound.now) (query_of body.now)))) result }
-    ensures left { Leaves D.definitions D.keeps D.known decider.old decider.new
+    ensures left { Leaves D.definitions D.unnamed D.keeps D.known decider.old decider.new
         gamma.old gamma.new }
 {
     let bound = type_of(alloc, bound, gamma, decider)?;
@@ -167,13 +176,15 @@ fn type_under<D: Decider>(
     gamma: &mut Gamma,
     decider: &mut D,
 ) -> Result<Measured, KindFault>
-    requires ready { IsReady (D.definitions decider.old) gamma.old }
+    requires ready { IsReady (D.definitions decider.old) (D.unnamed decider.old) gamma.old }
+    requires body_lacks { QueryLacks (D.unnamed decider.old) (query_of body.now) }
     requires usable { IsUsable (D.definitions decider.old) (ty_of made.ty.value) }
+    requires lacks { Lacks (D.unnamed decider.old) (ty_of made.ty.value) }
     ensures answer { let defs = D.definitions decider.old in
-        IsAnswer defs
+        IsAnswer (IsEvidence defs (D.unnamed decider.old))
         (Types defs (of_query ((var.now, ty_of made.ty.value) ∷ gamma.old) (query_of body.now)))
         result }
-    ensures left { Leaves D.definitions D.keeps D.known decider.old decider.new
+    ensures left { Leaves D.definitions D.unnamed D.keeps D.known decider.old decider.new
         gamma.old gamma.new }
 {
     gamma.bind_shared(*var, &made)?;
@@ -192,12 +203,15 @@ fn type_choice<D: Decider>(
     gamma: &mut Gamma,
     decider: &mut D,
 ) -> Result<Measured, KindFault>
-    requires ready { IsReady (D.definitions decider.old) gamma.old }
+    requires ready { IsReady (D.definitions decider.old) (D.unnamed decider.old) gamma.old }
+    requires condition_lacks { QueryLacks (D.unnamed decider.old) (query_of condition.now) }
+    requires yes_lacks { QueryLacks (D.unnamed decider.old) (query_of yes.now) }
+    requires no_lacks { QueryLacks (D.unnamed decider.old) (query_of no.now) }
     ensures answer { let defs = D.definitions decider.old in
-        IsAnswer defs
+        IsAnswer (IsEvidence defs (D.unnamed decider.old))
         (Types defs (of_query gamma.old
         (choice span (query_of condition.now) (query_of yes.now) (query_of no.now)))) result }
-    ensures left { Leaves D.definitions D.keeps D.known decider.old decider.new
+    ensures left { Leaves D.definitions D.unnamed D.keeps D.known decider.old decider.new
         gamma.old gamma.new }
 {
     type_condition(alloc, condition, gamma, decider)?;
@@ -213,12 +227,14 @@ fn type_condition<D: Decider>(
     gamma: &mut Gamma,
     decider: &mut D,
 ) -> Result<(), KindFault>
-    requires ready { IsReady (D.definitions decider.old) gamma.old }
+    requires ready { IsReady (D.definitions decider.old) (D.unnamed decider.old) gamma.old }
+    requires condition_lacks { QueryLacks (D.unnamed decider.old) (query_of condition.now) }
     ensures answer { OnOk result
         (IsTruth (D.definitions decider.old) gamma.old (query_of condition.now)) }
     ensures fault { let defs = D.definitions decider.old in
-        IfErr result (IsFault defs (InAnyChoice defs gamma.old (query_of condition.now))) }
-    ensures left { Leaves D.definitions D.keeps D.known decider.old decider.new
+        IfErr result (IsFault (IsEvidence defs (D.unnamed decider.old))
+        (InAnyChoice defs gamma.old (query_of condition.now))) }
+    ensures left { Leaves D.definitions D.unnamed D.keeps D.known decider.old decider.new
         gamma.old gamma.new }
 {
     let found = type_of(alloc, condition, gamma, decider)?;
@@ -239,18 +255,72 @@ fn type_alike<D: Decider>(
     gamma: &mut Gamma,
     decider: &mut D,
 ) -> Result<Measured, KindFault>
-    requires ready { IsReady (D.definitions decider.old) gamma.old }
+    requires ready { IsReady (D.definitions decider.old) (D.unnamed decider.old) gamma.old }
+    requires left_lacks { QueryLacks (D.unnamed decider.old) (query_of left.now) }
+    requires right_lacks { QueryLacks (D.unnamed decider.old) (query_of right.now) }
     ensures answer { let defs = D.definitions decider.old in
-        (at : Place) → IsAnswer defs
+        (at : Place) → IsAnswer (IsEvidence defs (D.unnamed decider.old))
         (Types defs (of_query gamma.old
         (alike at (query_of left.now) (query_of right.now)))) result }
-    ensures left { Leaves D.definitions D.keeps D.known decider.old decider.new
+    ensures left { Leaves D.definitions D.unnamed D.keeps D.known decider.old decider.new
         gamma.old gamma.new }
 {
     let _left = type_of(alloc, left, gamma, decider)?;
     let _right = type_of(alloc, right, gamma, decider)?;
     let made = one_atom(alloc, AtomKind::Bool)?;
     Ok(made)
+}
+
+#[cycle(typing)]
+fn type_less<D: Decider>(
+    alloc: Global,
+    left: &Query,
+    right: &Query,
+    gamma: &mut Gamma,
+    decider: &mut D,
+) -> Result<Measured, KindFault>
+    requires ready { IsReady (D.definitions decider.old) (D.unnamed decider.old) gamma.old }
+    requires left_lacks { QueryLacks (D.unnamed decider.old) (query_of left.now) }
+    requires right_lacks { QueryLacks (D.unnamed decider.old) (query_of right.now) }
+    ensures answer { let defs = D.definitions decider.old in
+        (at : Place) → IsAnswer (IsEvidence defs (D.unnamed decider.old))
+        (Types defs (of_query gamma.old
+        (less at (query_of left.now) (query_of right.now)))) result }
+    ensures left { Leaves D.definitions D.unnamed D.keeps D.known decider.old decider.new
+        gamma.old gamma.new }
+{
+    type_number(alloc, left, gamma, decider)?;
+    type_number(alloc, right, gamma, decider)?;
+    let made = one_atom(alloc, AtomKind::Bool)?;
+    Ok(made)
+}
+
+// A side of a comparison.
+#[cycle(typing)]
+fn type_number<D: Decider>(
+    alloc: Global,
+    number: &Query,
+    gamma: &mut Gamma,
+    decider: &mut D,
+) -> Result<(), KindFault>
+    requires ready { IsReady (D.definitions decider.old) (D.unnamed decider.old) gamma.old }
+    requires number_lacks { QueryLacks (D.unnamed decider.old) (query_of number.now) }
+    ensures answer { OnOk result
+        (IsNumber (D.definitions decider.old) gamma.old (query_of number.now)) }
+    ensures fault { let defs = D.definitions decider.old in
+        IfErr result (IsFault (IsEvidence defs (D.unnamed decider.old))
+        (InAnyComparison defs gamma.old (query_of number.now))) }
+    ensures left { Leaves D.definitions D.unnamed D.keeps D.known decider.old decider.new
+        gamma.old gamma.new }
+{
+    let found = type_of(alloc, number, gamma, decider)?;
+    match decider.included(alloc, found.ty.as_ref(), &Ty::Atom(AtomKind::Int))? {
+        Verdict::Yes => Ok(()),
+        Verdict::No(shown) => Err(KindFault::NotInt {
+            place: place(number),
+            shown,
+        }),
+    }
 }
 
 #[cycle(typing)]
@@ -262,11 +332,12 @@ fn type_filter<D: Decider>(
     gamma: &mut Gamma,
     decider: &mut D,
 ) -> Result<Measured, KindFault>
-    requires ready { IsReady (D.definitions decider.old) gamma.old }
+    requires ready { IsReady (D.definitions decider.old) (D.unnamed decider.old) gamma.old }
+    requires from_lacks { QueryLacks (D.unnamed decider.old) (query_of from.now) }
     ensures answer { let defs = D.definitions decider.old in
-        IsAnswer defs
+        IsAnswer (IsEvidence defs (D.unnamed decider.old))
         (Types defs (of_query gamma.old (filter span (query_of from.now) test.now))) result }
-    ensures left { Leaves D.definitions D.keeps D.known decider.old decider.new
+    ensures left { Leaves D.definitions D.unnamed D.keeps D.known decider.old decider.new
         gamma.old gamma.new }
 {
     let from = type_of(alloc, from, gamma, decider)?;
@@ -282,13 +353,15 @@ fn type_each<D: Decider>(
     gamma: &mut Gamma,
     decider: &mut D,
 ) -> Result<Measured, KindFault>
-    requires ready { IsReady (D.definitions decider.old) gamma.old }
+    requires ready { IsReady (D.definitions decider.old) (D.unnamed decider.old) gamma.old }
+    requires over_lacks { QueryLacks (D.unnamed decider.old) (query_of over.now) }
+    requires body_lacks { QueryLacks (D.unnamed decider.old) (query_of step.now.body.now) }
     ensures answer { let defs = D.definitions decider.old in
-        IsAnswer defs
+        IsAnswer (IsEvidence defs (D.unnamed decider.old))
         (Types defs (of_query gamma.old
         (each step.now.span step.now.var (query_of over.now) (query_of step.now.body.now))))
         result }
-    ensures left { Leaves D.definitions D.keeps D.known decider.old decider.new
+    ensures left { Leaves D.definitions D.unnamed D.keeps D.known decider.old decider.new
         gamma.old gamma.new }
 {
     let over = type_of(alloc, over, gamma, decider)?;
@@ -305,12 +378,14 @@ fn type_trees<D: Decider>(
     gamma: &mut Gamma,
     decider: &mut D,
 ) -> Result<Measured, KindFault>
-    requires ready { IsReady (D.definitions decider.old) gamma.old }
+    requires ready { IsReady (D.definitions decider.old) (D.unnamed decider.old) gamma.old }
+    requires body_lacks { QueryLacks (D.unnamed decider.old) (query_of step.now.body.now) }
     requires usable { IsUsable (D.definitions decider.old) (ty_of ty) }
+    requires lacks { Lacks (D.unnamed decider.old) (ty_of ty) }
     ensures answer { let defs = D.definitions decider.old in
         let returned = returning gamma.old step.now.var (query_of step.now.body.now) in
-        IsAnswer defs (Types defs (of_map step.now.span.from returned (ty_of ty))) result }
-    ensures left { Leaves D.definitions D.keeps D.known decider.old decider.new
+        IsAnswer (IsEvidence defs (D.unnamed decider.old)) (Types defs (of_map step.now.span.from returned (ty_of ty))) result }
+    ensures left { Leaves D.definitions D.unnamed D.keeps D.known decider.old decider.new
         gamma.old gamma.new }
 {
     let mut walk = Walk::new(alloc, step.span.from);

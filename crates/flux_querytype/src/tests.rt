@@ -1,15 +1,21 @@
 // What no clause says: that calls succeed, with types and places worked out by hand.
-ghost use Rattle.std.specs.Prelude.{◌≡◌, ◌↔◌, ◌+◌, ◌<◌, ◌≤◌, [], false, length, IsTrue, IfOk, OnOk};
+ghost use Rattle.std.specs.Prelude.{◌≡◌, ℕ, ◌↔◌, ◌+◌, ◌<◌, ◌≤◌, [], false, length, IsTrue, IfOk, OnOk};
+ghost use Rattle.flux_atom.specs.declared.word.Word.{Word as Letters};
 ghost use Rattle.flux_atom.specs.declared.atom.Atom.TheVariants.{Text as Words};
 ghost use Rattle.flux_trees.specs.Hedge.{leaf, nil};
 ghost use Rattle.flux_trees.specs.Draft.{done};
 ghost use Rattle.flux_schema.specs.Ty.{atom, NamesBelow};
 ghost use Rattle.flux_schema.specs.Definitions.{Definitions};
-ghost use Rattle.flux_schema.specs.Member.{Included};
+ghost use Rattle.flux_schema.specs.Labels.{Lacks, BodiesLack};
+ghost use Rattle.flux_schema.specs.Member.{Member, Included};
 ghost use Rattle.flux_types.specs.Read.{ty_of};
 ghost use Rattle.flux_types.specs.Kept.{AreKept};
 ghost use Rattle.flux_types.specs.Verdicts.{IsVerdict};
+ghost use Rattle.flux_calculus.specs.declared.ask.Span.{Span as Place};
+ghost use Rattle.flux_calculus.specs.Labels.{EachLabelOfTest};
+ghost use Rattle.flux_query.specs.Read.{query_of, queries_of};
 ghost use Rattle.flux_core.specs.Faults.{IsUsable, AreUsable};
+ghost use Rattle.flux_querytype.specs.Answers.{QueryLacks, ContextLacks};
 
 use crate::type_query;
 use flux_atom::{Atom, AtomKind, Boxed, Items, Name, Names, Word, is_name};
@@ -19,13 +25,32 @@ use flux_forest::{Forest, Head};
 use flux_query::Query;
 use flux_types::{Decider, Defs, Draft, Ty, Verdict, copy_of, height, size, tidy};
 use std::alloc::{AllocError, Global};
+use std::marker::Model;
 use std::process::Abort;
 use std::test::Fail;
 
-// Decides only that `bool` is included in `bool`, and that `string` isn't.
+// Decides only that `bool` is included in `bool` and `int` in `int`, and that `string` isn't
+// included in either. The label stands in no body.
 #[derive(Drop)]
 struct Texts<'d> {
     defs: &'d Defs,
+    other: Name,
+}
+
+impl<'d> Model for Texts<'d> {
+    ghost use Rattle.std.specs.Prelude.{ℕ};
+    ghost use Rattle.std.specs.Coded.{coded×, coded_ℕ};
+    ghost use Rattle.flux_schema.specs.Definitions.{Definitions};
+    ghost use Rattle.flux_schema.specs.DefinitionCodes.{definitions_code};
+    ghost use Rattle.flux_schema.specs.Labels.{BodiesLack};
+
+    ghost Value = { Definitions × ℕ };
+
+    ghost coded = { coded× definitions_code coded_ℕ };
+
+    ghost view = { λ d. (d.defs.now, d.other) };
+
+    ghost invariant = { λ d. BodiesLack d.other d.defs.now };
 }
 
 #[tactic(auto, using(flux_types::proofs::Variants::of_atom))]
@@ -38,41 +63,57 @@ fn is_atom(ty: &Ty, kind: AtomKind) -> bool
     }
 }
 
-// Whether both types are `bool`.
-fn are_truths(left: &Ty, right: &Ty) -> bool
+// Whether both types are that of one kind of atoms.
+fn are_atoms(left: &Ty, right: &Ty, kind: AtomKind) -> bool
     ensures { (defs : Definitions) → IsTrue result →
         Included defs (ty_of left.now) (ty_of right.now) }
 {
-    is_atom(left, AtomKind::Bool) && is_atom(right, AtomKind::Bool)
+    is_atom(left, kind) && is_atom(right, kind)
 }
 
-// A text, where the types are `string` and `bool`.
-fn verdict(alloc: Global, defs: &Defs, left: &Ty, right: &Ty) -> Result<Verdict, AllocError>
-    ensures { IfOk result (IsVerdict defs.now (ty_of left.now) (ty_of right.now)) }
+// Whether the type is `bool` or `int`: no text is a member of it.
+#[tactic(auto, using(crate::proofs::Shown::no_truth, crate::proofs::Shown::no_number))]
+fn takes_no_text(ty: &Ty) -> bool
+    ensures { (defs : Definitions) (word : Letters) → IsTrue result →
+        ¬ (Member defs (leaf tt (Words word) nil) (ty_of ty.now)) }
 {
-    if are_truths(left, right) {
+    is_atom(ty, AtomKind::Bool) || is_atom(ty, AtomKind::Int)
+}
+
+// A text, where the types are `string` and `bool` or `int`.
+fn verdict(alloc: Global, left: &Ty, right: &Ty) -> Result<Verdict, AllocError>
+    ensures { (defs : Definitions) (other : ℕ) →
+        IfOk result (IsVerdict defs other (ty_of left.now) (ty_of right.now)) }
+{
+    if are_atoms(left, right, AtomKind::Bool) || are_atoms(left, right, AtomKind::Int) {
         return Ok(Verdict::Yes);
     }
-    if !is_atom(left, AtomKind::Text) || !is_atom(right, AtomKind::Bool) {
+    if !is_atom(left, AtomKind::Text) || !takes_no_text(right) {
         return Err(AllocError);
     }
     let shown = some_text(alloc)?;
     Ok(Verdict::No(shown))
 }
 
-impl Decider for Texts<'_> {
-    ghost definitions = { λ d. d.defs.now };
+impl<'d> Decider for Texts<'d> {
+    ghost definitions = { λ d. d.0 };
+
+    ghost unnamed = { λ d. d.1 };
 
     ghost keeps = { λ _. false };
 
     ghost known = { λ _. [] };
+
+    fn other(&self) -> Name {
+        self.other
+    }
 
     fn defs(&self) -> &Defs {
         self.defs.as_kept()
     }
 
     fn included(&mut self, alloc: Global, left: &Ty, right: &Ty) -> Result<Verdict, AllocError> {
-        verdict(alloc, self.defs, left, right)
+        verdict(alloc, left, right)
     }
 }
 
@@ -90,12 +131,89 @@ fn name(rt: &impl Abort, names: &mut Names, text: &str) -> Result<Name, AllocErr
     names.intern(text)
 }
 
+fn lacks(ty: &Ty, other: Name) -> bool
+    ensures { IsTrue result → Lacks other (ty_of ty.now) }
+{
+    match ty {
+        Ty::Empty | Ty::Atom(_) | Ty::Named(_) => true,
+        Ty::Elem(label, inner) => *label != other && lacks(inner.get(), other),
+        Ty::AnyElem(inner) | Ty::Star(inner) => lacks(inner.get(), other),
+        Ty::Seq(left, right) | Ty::Alt(left, right) => {
+            lacks(left.get(), other) && lacks(right.get(), other)
+        }
+    }
+}
+
+// Whether no body has the label.
+fn bodies_lack(defs: &Defs, other: Name) -> bool
+    ensures { IsTrue result → BodiesLack other defs.now }
+{
+    for index in 0..defs.len() {
+        if !lacks(defs.unfold(index), other) {
+            return false;
+        }
+    }
+    true
+}
+
+// A label of a table of its own, for types and queries where no label stands.
+fn lone_label(rt: &impl Abort, alloc: Global) -> Result<Name, AllocError> {
+    let mut names = Names::new(alloc);
+    name(rt, &mut names, "other")
+}
+
+#[cycle(lacking)]
+fn query_lacks(query: &Query, other: Name) -> bool
+    ensures { IsTrue result → QueryLacks other (query_of query.now) }
+{
+    match query {
+        Query::Concat(queries, _) => queries_lack(queries.as_slice(), other),
+        Query::Elem(label, content, _) => *label != other && query_lacks(content.get(), other),
+        Query::Lit(_, _) | Query::Var(_, _) | Query::Child(_, _) => true,
+        Query::Let(_, first, second, _)
+        | Query::Same(first, second, _)
+        | Query::Less(first, second, _)
+        | Query::For(_, first, second, _) => {
+            query_lacks(first.get(), other) && query_lacks(second.get(), other)
+        }
+        Query::If(condition, yes, no, _) => {
+            query_lacks(condition.get(), other)
+                && query_lacks(yes.get(), other)
+                && query_lacks(no.get(), other)
+        }
+        Query::Filter(from, test, _) => {
+            test_lacks(test, other) && query_lacks(from.get(), other)
+        }
+    }
+}
+
+#[cycle(lacking)]
+fn queries_lack(queries: &[Query], other: Name) -> bool
+    ensures { (at : Place) → IsTrue result → QueryLacks other (queries_of at queries.now) }
+{
+    for query in queries {
+        if !query_lacks(query, other) {
+            return false;
+        }
+    }
+    true
+}
+
+fn test_lacks(test: &Test, other: Name) -> bool
+    ensures { IsTrue result → EachLabelOfTest (λ label. ¬ (label ≡ other)) test.now }
+{
+    match test {
+        Test::Label(label) => *label != other,
+        Test::AnyElement | Test::OfText | Test::OfBool | Test::OfInt => true,
+    }
+}
+
 fn is_known(ty: &Ty, count: u32) -> bool
     ensures { IsTrue result ↔ NamesBelow count (ty_of ty.now) }
 {
     match ty {
         Ty::Empty | Ty::Atom(_) => true,
-        Ty::Elem(_, inner) | Ty::Star(inner) => is_known(inner.get(), count),
+        Ty::Elem(_, inner) | Ty::AnyElem(inner) | Ty::Star(inner) => is_known(inner.get(), count),
         Ty::Seq(left, right) | Ty::Alt(left, right) => {
             is_known(left.get(), count) && is_known(right.get(), count)
         }
@@ -103,19 +221,29 @@ fn is_known(ty: &Ty, count: u32) -> bool
     }
 }
 
-fn is_usable(ty: &Ty, defs: &Defs) -> bool
+fn is_usable(ty: &Ty, defs: &Defs, other: Name) -> bool
     ensures usable { IsTrue result → IsUsable defs.now (ty_of ty.now) }
+    ensures lacks { IsTrue result → Lacks other (ty_of ty.now) }
     ensures kept { AreKept defs.now }
 {
     let count = defs.len();
-    size(ty) <= 65_536 && height(ty) <= 500 && is_known(ty, count)
+    let is_kept = size(ty) <= 65_536 && height(ty) <= 500 && is_known(ty, count);
+    is_kept && lacks(ty, other)
 }
 
-fn bind(rt: &impl Abort, gamma: &mut Gamma, ty: Ty, defs: &Defs) -> Result<(), AllocError>
-    requires { AreUsable defs.now gamma.old }
-    ensures { OnOk result (AreUsable defs.now gamma.new) }
+fn bind(
+    rt: &impl Abort,
+    gamma: &mut Gamma,
+    ty: Ty,
+    defs: &Defs,
+    other: Name,
+) -> Result<(), AllocError>
+    requires usable { AreUsable defs.now gamma.old }
+    requires lacks { ContextLacks other gamma.old }
+    ensures usable { OnOk result (AreUsable defs.now gamma.new) }
+    ensures lacks { OnOk result (ContextLacks other gamma.new) }
 {
-    let usable = is_usable(&ty, defs);
+    let usable = is_usable(&ty, defs, other);
     assert!(rt; usable);
     gamma.bind(Param {
         var: Var::Made(0),
@@ -124,17 +252,30 @@ fn bind(rt: &impl Abort, gamma: &mut Gamma, ty: Ty, defs: &Defs) -> Result<(), A
     Ok(())
 }
 
-fn none_bound(alloc: Global, defs: &Defs) -> Gamma
-    ensures { AreUsable defs.now result }
+fn none_bound(alloc: Global, defs: &Defs, other: Name) -> Gamma
+    ensures usable { AreUsable defs.now result }
+    ensures lacks { ContextLacks other result }
 {
     Gamma::new(alloc)
 }
 
-fn typed(alloc: Global, gamma: &mut Gamma, query: &Query, defs: &Defs) -> Result<Ty, KindFault>
-    requires { AreUsable defs.now gamma.old }
+fn typed(
+    rt: &impl Abort,
+    alloc: Global,
+    gamma: &mut Gamma,
+    query: &Query,
+    defs: &Defs,
+    other: Name,
+) -> Result<Ty, KindFault>
+    requires usable { AreUsable defs.now gamma.old }
+    requires lacks { ContextLacks other gamma.old }
     ensures { gamma.new ≡ gamma.old }
 {
-    let mut decider = Texts { defs };
+    let lacks = query_lacks(query, other);
+    assert!(rt; lacks);
+    let bodies_lack = bodies_lack(defs, other);
+    assert!(rt; bodies_lack);
+    let mut decider = Texts { defs, other };
     type_query(alloc, gamma, query, &mut decider)
 }
 
@@ -145,6 +286,7 @@ fn same(left: &Ty, right: &Ty) -> bool {
         (Ty::Elem(label, inner), Ty::Elem(other, content)) => {
             label == other && same(inner.get(), content.get())
         }
+        (Ty::AnyElem(inner), Ty::AnyElem(content)) => same(inner.get(), content.get()),
         (Ty::Seq(t, u), Ty::Seq(v, w)) => same(t.get(), v.get()) && same(u.get(), w.get()),
         (Ty::Alt(t, u), Ty::Alt(v, w)) => same(t.get(), v.get()) && same(u.get(), w.get()),
         (Ty::Star(inner), Ty::Star(content)) => same(inner.get(), content.get()),
@@ -167,6 +309,10 @@ fn element(alloc: Global, label: Name, inner: Ty) -> Result<Ty, AllocError> {
 
 fn seq(alloc: Global, left: Ty, right: Ty) -> Result<Ty, AllocError> {
     Ok(Ty::Seq(Boxed::new(alloc, left)?, Boxed::new(alloc, right)?))
+}
+
+fn either(alloc: Global, left: Ty, right: Ty) -> Result<Ty, AllocError> {
+    Ok(Ty::Alt(Boxed::new(alloc, left)?, Boxed::new(alloc, right)?))
 }
 
 fn star(alloc: Global, inner: Ty) -> Result<Ty, AllocError> {
@@ -248,15 +394,17 @@ fn the_authors_of_a_book(rt: HostRuntime) -> Result<(), Fail> {
     let label = name(&rt, &mut names, "book")?;
     let title = name(&rt, &mut names, "title")?;
     let author = name(&rt, &mut names, "author")?;
-    let mut gamma = none_bound(alloc, &defs);
+    let other = name(&rt, &mut names, "other")?;
+    let mut gamma = none_bound(alloc, &defs, other);
     bind(
         &rt,
         &mut gamma,
         book(alloc, &[label, title, author])?,
         &defs,
+        other,
     )?;
     let query = authors_inside(alloc, author)?;
-    match typed(alloc, &mut gamma, &query, &defs) {
+    match typed(&rt, alloc, &mut gamma, &query, &defs, other) {
         Ok(ty) => {
             let ty = tidy(alloc, &ty)?;
             assert!(rt; same(&ty, &authors(alloc, author)?));
@@ -290,9 +438,10 @@ fn text_chooses(alloc: Global) -> Result<Query, AllocError> {
 fn a_text_as_a_condition(rt: HostRuntime) -> Result<(), Fail> {
     let alloc = rt.alloc();
     let defs = no_definitions(alloc)?;
-    let mut gamma = none_bound(alloc, &defs);
+    let other = lone_label(&rt, alloc)?;
+    let mut gamma = none_bound(alloc, &defs, other);
     let query = text_chooses(alloc)?;
-    let outcome = typed(alloc, &mut gamma, &query, &defs);
+    let outcome = typed(&rt, alloc, &mut gamma, &query, &defs, other);
     assert!(rt; shows_a_text(&outcome, 3));
     Ok(())
 }
@@ -309,10 +458,11 @@ fn what_is_not_one_tree(rt: HostRuntime) -> Result<(), Fail> {
     let defs = no_definitions(alloc)?;
     let mut names = Names::new(alloc);
     let a = name(&rt, &mut names, "a")?;
-    let mut gamma = none_bound(alloc, &defs);
-    bind(&rt, &mut gamma, many(alloc, a)?, &defs)?;
+    let other = name(&rt, &mut names, "other")?;
+    let mut gamma = none_bound(alloc, &defs, other);
+    bind(&rt, &mut gamma, many(alloc, a)?, &defs, other)?;
     let query = Query::Child(Var::Made(0), at(7));
-    let outcome = typed(alloc, &mut gamma, &query, &defs);
+    let outcome = typed(&rt, alloc, &mut gamma, &query, &defs, other);
     assert!(rt; matches!(outcome, Err(KindFault::NotSingle { place: 7 })));
     Ok(())
 }
@@ -321,10 +471,11 @@ fn what_is_not_one_tree(rt: HostRuntime) -> Result<(), Fail> {
 fn what_is_not_bound(rt: HostRuntime) -> Result<(), Fail> {
     let alloc = rt.alloc();
     let defs = no_definitions(alloc)?;
-    let mut gamma = none_bound(alloc, &defs);
-    bind(&rt, &mut gamma, Ty::Empty, &defs)?;
+    let other = lone_label(&rt, alloc)?;
+    let mut gamma = none_bound(alloc, &defs, other);
+    bind(&rt, &mut gamma, Ty::Empty, &defs, other)?;
     let query = both(alloc, seen(Var::Made(0), 1), seen(Var::Made(1), 9), 0)?;
-    let outcome = typed(alloc, &mut gamma, &query, &defs);
+    let outcome = typed(&rt, alloc, &mut gamma, &query, &defs, other);
     assert!(rt; matches!(outcome, Err(KindFault::UnknownVar { place: 9 })));
     Ok(())
 }
@@ -345,9 +496,10 @@ fn hidden(alloc: Global) -> Result<Query, AllocError> {
 fn a_variable_that_is_hidden_and_seen_again(rt: HostRuntime) -> Result<(), Fail> {
     let alloc = rt.alloc();
     let defs = no_definitions(alloc)?;
-    let mut gamma = none_bound(alloc, &defs);
+    let other = lone_label(&rt, alloc)?;
+    let mut gamma = none_bound(alloc, &defs, other);
     let query = hidden(alloc)?;
-    let outcome = typed(alloc, &mut gamma, &query, &defs);
+    let outcome = typed(&rt, alloc, &mut gamma, &query, &defs, other);
     let wanted = seq(alloc, Ty::Atom(AtomKind::Text), Ty::Atom(AtomKind::Bool))?;
     assert_type(&rt, &outcome, &wanted);
     Ok(())
@@ -387,9 +539,10 @@ fn a_type_at_the_limit(rt: HostRuntime) -> Result<(), Fail> {
     let defs = no_definitions(alloc)?;
     let mut names = Names::new(alloc);
     let a = name(&rt, &mut names, "a")?;
-    let mut gamma = none_bound(alloc, &defs);
+    let other = name(&rt, &mut names, "other")?;
+    let mut gamma = none_bound(alloc, &defs, other);
     let query = large(alloc, a, 1)?;
-    match typed(alloc, &mut gamma, &query, &defs) {
+    match typed(&rt, alloc, &mut gamma, &query, &defs, other) {
         Ok(ty) => assert_eq!(rt; size(&ty), 65_536),
         Err(_) => assert!(rt; false),
     }
@@ -402,9 +555,10 @@ fn a_type_over_the_limit(rt: HostRuntime) -> Result<(), Fail> {
     let defs = no_definitions(alloc)?;
     let mut names = Names::new(alloc);
     let a = name(&rt, &mut names, "a")?;
-    let mut gamma = none_bound(alloc, &defs);
+    let other = name(&rt, &mut names, "other")?;
+    let mut gamma = none_bound(alloc, &defs, other);
     let query = large(alloc, a, 2)?;
-    let outcome = typed(alloc, &mut gamma, &query, &defs);
+    let outcome = typed(&rt, alloc, &mut gamma, &query, &defs, other);
     assert!(rt; matches!(outcome, Err(KindFault::TypeTooLarge { place: 1 })));
     Ok(())
 }
@@ -433,11 +587,12 @@ fn a_step_at_a_recursive_name(rt: HostRuntime) -> Result<(), Fail> {
     let alloc = rt.alloc();
     let mut names = Names::new(alloc);
     let a = name(&rt, &mut names, "a")?;
+    let other = name(&rt, &mut names, "other")?;
     let defs = recursive(&rt, alloc, a)?;
-    let mut gamma = none_bound(alloc, &defs);
-    bind(&rt, &mut gamma, Ty::Named(0), &defs)?;
+    let mut gamma = none_bound(alloc, &defs, other);
+    bind(&rt, &mut gamma, Ty::Named(0), &defs, other)?;
     let query = each_inside(alloc)?;
-    let outcome = typed(alloc, &mut gamma, &query, &defs);
+    let outcome = typed(&rt, alloc, &mut gamma, &query, &defs, other);
     let wanted = star(alloc, Ty::Named(0))?;
     assert_type(&rt, &outcome, &wanted);
     Ok(())
@@ -452,6 +607,7 @@ enum Sign {
     Kind(AtomKind),
     Name(u32),
     Tree(Name),
+    Any,
     Star,
     Seq,
     Alt,
@@ -461,10 +617,13 @@ const TEXT: Sign = Sign::Kind(AtomKind::Text);
 
 const TRUTH: Sign = Sign::Kind(AtomKind::Bool);
 
+const NUMBER: Sign = Sign::Kind(AtomKind::Int);
+
 fn one(alloc: Global, sign: Sign, parts: &mut Vec<Ty>) -> Result<Ty, AllocError> {
     let part = parts.pop().unwrap_or(Ty::Empty);
     match sign {
         Sign::Tree(name) => element(alloc, name, part),
+        Sign::Any => Ok(Ty::AnyElem(Boxed::new(alloc, part)?)),
         Sign::Star => star(alloc, part),
         _ => Ok(part),
     }
@@ -475,7 +634,7 @@ fn two(alloc: Global, sign: Sign, parts: &mut Vec<Ty>) -> Result<Ty, AllocError>
     let right = parts.pop().unwrap_or(Ty::Empty);
     match sign {
         Sign::Seq => seq(alloc, left, right),
-        _ => Ok(Ty::Alt(Boxed::new(alloc, left)?, Boxed::new(alloc, right)?)),
+        _ => either(alloc, left, right),
     }
 }
 
@@ -486,7 +645,7 @@ fn ty(alloc: Global, signs: &[Sign]) -> Result<Ty, AllocError> {
             Sign::Nothing => Ty::Empty,
             Sign::Kind(kind) => Ty::Atom(kind),
             Sign::Name(index) => Ty::Named(index),
-            Sign::Tree(_) | Sign::Star => one(alloc, *sign, &mut parts)?,
+            Sign::Tree(_) | Sign::Any | Sign::Star => one(alloc, *sign, &mut parts)?,
             Sign::Seq | Sign::Alt => two(alloc, *sign, &mut parts)?,
         };
         parts.push(made)?;
@@ -501,10 +660,12 @@ enum Ask {
     None,
     True,
     Text,
+    Number,
     Seen(u32),
     Child(u32),
     If,
     Same,
+    Less,
     For,
     Filter(Test),
 }
@@ -519,6 +680,7 @@ fn pair(alloc: Global, ask: Ask, parts: &mut Vec<Query>) -> Result<Query, AllocE
     let second = taken(alloc, parts)?;
     match ask {
         Ask::Same => Ok(Query::Same(first, second, at(0))),
+        Ask::Less => Ok(Query::Less(first, second, at(0))),
         _ => Ok(Query::For(Var::Made(1), first, second, at(0))),
     }
 }
@@ -535,10 +697,11 @@ fn asked(alloc: Global, ask: Ask, parts: &mut Vec<Query>) -> Result<Query, Alloc
         Ask::None => Ok(Query::Concat(Items::new(alloc), at(0))),
         Ask::True => Ok(Query::Lit(Atom::Bool(true), at(0))),
         Ask::Text => text(alloc, 7),
+        Ask::Number => Ok(Query::Lit(Atom::Int(1), at(0))),
         Ask::Seen(index) => Ok(seen(Var::Made(index), 0)),
         Ask::Child(index) => Ok(Query::Child(Var::Made(index), at(0))),
         Ask::If => chosen(alloc, parts),
-        Ask::Same | Ask::For => pair(alloc, ask, parts),
+        Ask::Same | Ask::Less | Ask::For => pair(alloc, ask, parts),
         Ask::Filter(test) => Ok(Query::Filter(taken(alloc, parts)?, test, at(0))),
     }
 }
@@ -558,25 +721,27 @@ fn outcome(
     rt: &impl Abort,
     alloc: Global,
     defs: &Defs,
+    other: Name,
     bound: &[Sign],
     asks: &[Ask],
 ) -> Result<Result<Ty, KindFault>, Fail> {
     let bound = ty(alloc, bound)?;
     let query = query(alloc, asks)?;
-    let mut gamma = none_bound(alloc, defs);
-    bind(rt, &mut gamma, bound, defs)?;
-    Ok(typed(alloc, &mut gamma, &query, defs))
+    let mut gamma = none_bound(alloc, defs, other);
+    bind(rt, &mut gamma, bound, defs, other)?;
+    Ok(typed(rt, alloc, &mut gamma, &query, defs, other))
 }
 
 fn assert_typed(
     rt: &impl Abort,
     alloc: Global,
     defs: &Defs,
+    other: Name,
     bound: &[Sign],
     asks: &[Ask],
     wanted: &[Sign],
 ) -> Result<(), Fail> {
-    let outcome = outcome(rt, alloc, defs, bound, asks)?;
+    let outcome = outcome(rt, alloc, defs, other, bound, asks)?;
     let wanted = ty(alloc, wanted)?;
     assert_type(rt, &outcome, &wanted);
     Ok(())
@@ -598,16 +763,26 @@ fn one_truth(rt: &impl Abort, alloc: Global, label: Name) -> Result<Defs, Fail> 
 fn conditions(rt: HostRuntime) -> Result<(), Fail> {
     let alloc = rt.alloc();
     let defs = no_definitions(alloc)?;
+    let other = lone_label(&rt, alloc)?;
     let none = [Sign::Nothing];
     let chosen = [Ask::If, Ask::True, Ask::Text, Ask::True];
-    assert_typed(&rt, alloc, &defs, &none, &chosen, &[Sign::Alt, TEXT, TRUTH])?;
+    assert_typed(
+        &rt,
+        alloc,
+        &defs,
+        other,
+        &none,
+        &chosen,
+        &[Sign::Alt, TEXT, TRUTH],
+    )?;
     let same = [Ask::Same, Ask::Text, Ask::None];
-    assert_typed(&rt, alloc, &defs, &none, &same, &[TRUTH])?;
-    assert_typed(&rt, alloc, &defs, &none, &[Ask::None], &none)?;
+    assert_typed(&rt, alloc, &defs, other, &none, &same, &[TRUTH])?;
+    assert_typed(&rt, alloc, &defs, other, &none, &[Ask::None], &none)?;
     let refused = outcome(
         &rt,
         alloc,
         &defs,
+        other,
         &none,
         &[Ask::If, Ask::Text, Ask::None, Ask::None],
     )?;
@@ -620,19 +795,29 @@ fn loops(rt: HostRuntime) -> Result<(), Fail> {
     let alloc = rt.alloc();
     let mut names = Names::new(alloc);
     let x = name(&rt, &mut names, "X")?;
+    let other = name(&rt, &mut names, "other")?;
     let defs = one_truth(&rt, alloc, x)?;
     let each = [Ask::For, Ask::Seen(0), Ask::Seen(1)];
     let row = [Sign::Seq, TRUTH, TEXT];
-    assert_typed(&rt, alloc, &defs, &row, &each, &row)?;
+    assert_typed(&rt, alloc, &defs, other, &row, &each, &row)?;
     let either = [Sign::Alt, TEXT, TRUTH];
-    assert_typed(&rt, alloc, &defs, &either, &each, &either)?;
-    assert_typed(&rt, alloc, &defs, &[Sign::Name(0)], &each, &[TRUTH])?;
-    assert_typed(&rt, alloc, &defs, &[Sign::Nothing], &each, &[Sign::Nothing])?;
+    assert_typed(&rt, alloc, &defs, other, &either, &each, &either)?;
+    assert_typed(&rt, alloc, &defs, other, &[Sign::Name(0)], &each, &[TRUTH])?;
+    assert_typed(
+        &rt,
+        alloc,
+        &defs,
+        other,
+        &[Sign::Nothing],
+        &each,
+        &[Sign::Nothing],
+    )?;
     let empty = [Ask::Child(0)];
     assert_typed(
         &rt,
         alloc,
         &defs,
+        other,
         &[Sign::Name(0)],
         &empty,
         &[Sign::Nothing],
@@ -644,6 +829,7 @@ fn filters(rt: HostRuntime) -> Result<(), Fail> {
     let alloc = rt.alloc();
     let mut names = Names::new(alloc);
     let a = name(&rt, &mut names, "a")?;
+    let other = name(&rt, &mut names, "other")?;
     let defs = one_truth(&rt, alloc, a)?;
     // a[],(string|X)*
     let mixed = [
@@ -665,7 +851,7 @@ fn filters(rt: HostRuntime) -> Result<(), Fail> {
         Sign::Nothing,
         Sign::Nothing,
     ];
-    assert_typed(&rt, alloc, &defs, &mixed, &any, &nothing)?;
+    assert_typed(&rt, alloc, &defs, other, &mixed, &any, &nothing)?;
     let texts = [Ask::Filter(Test::OfText), Ask::Seen(0)];
     let wanted = [
         Sign::Seq,
@@ -675,7 +861,7 @@ fn filters(rt: HostRuntime) -> Result<(), Fail> {
         TEXT,
         Sign::Nothing,
     ];
-    assert_typed(&rt, alloc, &defs, &mixed, &texts, &wanted)?;
+    assert_typed(&rt, alloc, &defs, other, &mixed, &texts, &wanted)?;
     let truths = [Ask::Filter(Test::OfBool), Ask::Seen(0)];
     let wanted = [
         Sign::Seq,
@@ -685,7 +871,86 @@ fn filters(rt: HostRuntime) -> Result<(), Fail> {
         Sign::Nothing,
         TRUTH,
     ];
-    assert_typed(&rt, alloc, &defs, &mixed, &truths, &wanted)
+    assert_typed(&rt, alloc, &defs, other, &mixed, &truths, &wanted)
+}
+
+// Whether a side of a comparison at the place isn't a number, and a text is shown.
+fn shows_no_number(outcome: &Result<Ty, KindFault>, at: u32) -> bool {
+    match outcome {
+        Err(KindFault::NotInt { place, shown }) => *place == at && is_text(shown),
+        _ => false,
+    }
+}
+
+#[test]
+fn comparisons(rt: HostRuntime) -> Result<(), Fail> {
+    let alloc = rt.alloc();
+    let defs = no_definitions(alloc)?;
+    let other = lone_label(&rt, alloc)?;
+    let none = [Sign::Nothing];
+    let numbers = [Ask::Less, Ask::Number, Ask::Number];
+    assert_typed(&rt, alloc, &defs, other, &none, &numbers, &[TRUTH])?;
+    let bound = [Ask::Less, Ask::Seen(0), Ask::Number];
+    assert_typed(&rt, alloc, &defs, other, &[NUMBER], &bound, &[TRUTH])?;
+    let texts = [
+        [Ask::Less, Ask::Text, Ask::Number],
+        [Ask::Less, Ask::Number, Ask::Text],
+    ];
+    for asks in &texts {
+        let refused = outcome(&rt, alloc, &defs, other, &none, asks)?;
+        assert!(rt; shows_no_number(&refused, 7));
+    }
+    let unbound = [Ask::Less, Ask::Seen(1), Ask::Text];
+    let refused = outcome(&rt, alloc, &defs, other, &none, &unbound)?;
+    assert!(rt; matches!(refused, Err(KindFault::UnknownVar { place: 0 })));
+    Ok(())
+}
+
+#[test]
+fn elements_of_any_label(rt: HostRuntime) -> Result<(), Fail> {
+    let alloc = rt.alloc();
+    let mut names = Names::new(alloc);
+    let a = name(&rt, &mut names, "a")?;
+    let other = name(&rt, &mut names, "other")?;
+    let defs = no_definitions(alloc)?;
+    let row = [Sign::Star, Sign::Any, TEXT];
+    let labelled = [Ask::Filter(Test::Label(a)), Ask::Seen(0)];
+    let wanted = [Sign::Star, Sign::Alt, Sign::Tree(a), TEXT, Sign::Nothing];
+    assert_typed(&rt, alloc, &defs, other, &row, &labelled, &wanted)?;
+    let elements = [Ask::Filter(Test::AnyElement), Ask::Seen(0)];
+    assert_typed(&rt, alloc, &defs, other, &row, &elements, &row)?;
+    let texts = [Ask::Filter(Test::OfText), Ask::Seen(0)];
+    let wanted = [Sign::Star, Sign::Nothing];
+    assert_typed(&rt, alloc, &defs, other, &row, &texts, &wanted)?;
+    let child = [Ask::Child(0)];
+    assert_typed(
+        &rt,
+        alloc,
+        &defs,
+        other,
+        &[Sign::Any, NUMBER],
+        &child,
+        &[NUMBER],
+    )?;
+    let row = [Sign::Star, Sign::Any, NUMBER];
+    let each = [Ask::For, Ask::Seen(0), Ask::Seen(1)];
+    assert_typed(&rt, alloc, &defs, other, &row, &each, &row)
+}
+
+#[test]
+fn numbers(rt: HostRuntime) -> Result<(), Fail> {
+    let alloc = rt.alloc();
+    let defs = no_definitions(alloc)?;
+    let other = lone_label(&rt, alloc)?;
+    let none = [Sign::Nothing];
+    assert_typed(&rt, alloc, &defs, other, &[NUMBER], &[Ask::Child(0)], &none)?;
+    let numbers = [Ask::Filter(Test::OfInt), Ask::Seen(0)];
+    assert_typed(&rt, alloc, &defs, other, &[NUMBER], &numbers, &[NUMBER])?;
+    let texts = [Ask::Filter(Test::OfText), Ask::Seen(0)];
+    assert_typed(&rt, alloc, &defs, other, &[NUMBER], &texts, &none)?;
+    let mixed = [Sign::Star, Sign::Alt, NUMBER, TEXT];
+    let wanted = [Sign::Star, Sign::Alt, NUMBER, Sign::Nothing];
+    assert_typed(&rt, alloc, &defs, other, &mixed, &numbers, &wanted)
 }
 
 // ---- deep and long
@@ -703,13 +968,21 @@ fn literals(alloc: Global, count: u32) -> Result<Query, AllocError> {
 fn many_queries(rt: HostRuntime) -> Result<(), Fail> {
     let alloc = rt.alloc();
     let defs = no_definitions(alloc)?;
-    let mut gamma = none_bound(alloc, &defs);
-    match typed(alloc, &mut gamma, &literals(alloc, 400)?, &defs) {
+    let other = lone_label(&rt, alloc)?;
+    let mut gamma = none_bound(alloc, &defs, other);
+    match typed(&rt, alloc, &mut gamma, &literals(alloc, 400)?, &defs, other) {
         Ok(ty) => assert_eq!(rt; size(&ty), 799),
         Err(_) => assert!(rt; false),
     }
-    let mut gamma = none_bound(alloc, &defs);
-    let outcome = typed(alloc, &mut gamma, &literals(alloc, 20_000)?, &defs);
+    let mut gamma = none_bound(alloc, &defs, other);
+    let outcome = typed(
+        &rt,
+        alloc,
+        &mut gamma,
+        &literals(alloc, 20_000)?,
+        &defs,
+        other,
+    );
     assert!(rt; matches!(outcome, Err(KindFault::TypeTooLarge { place: 5 })));
     Ok(())
 }
@@ -720,6 +993,42 @@ fn stars(alloc: Global, count: u32) -> Result<Ty, AllocError> {
         ty = star(alloc, ty)?;
     }
     Ok(ty)
+}
+
+// any[string*..*], with `count` stars: it has `count` + 2 levels.
+fn any_high(alloc: Global, count: u32) -> Result<Ty, AllocError> {
+    let content = stars(alloc, count)?;
+    Ok(Ty::AnyElem(Boxed::new(alloc, content)?))
+}
+
+// Filter(0, a), at the place 3
+fn labelled(alloc: Global, a: Name) -> Result<Query, AllocError> {
+    let from = Boxed::new(alloc, seen(Var::Made(0), 5))?;
+    Ok(Query::Filter(from, Test::Label(a), at(3)))
+}
+
+#[test]
+fn a_label_of_a_high_element_of_any_label(rt: HostRuntime) -> Result<(), Fail> {
+    let alloc = rt.alloc();
+    let mut names = Names::new(alloc);
+    let a = name(&rt, &mut names, "a")?;
+    let other = name(&rt, &mut names, "other")?;
+    let defs = no_definitions(alloc)?;
+    let query = labelled(alloc, a)?;
+    let mut gamma = none_bound(alloc, &defs, other);
+    bind(&rt, &mut gamma, any_high(alloc, 497)?, &defs, other)?;
+    let outcome = typed(&rt, alloc, &mut gamma, &query, &defs, other);
+    let found = element(alloc, a, stars(alloc, 497)?)?;
+    let wanted = either(alloc, found, Ty::Empty)?;
+    assert_eq!(rt; height(&wanted), 500);
+    assert_type(&rt, &outcome, &wanted);
+    let mut gamma = none_bound(alloc, &defs, other);
+    let above = any_high(alloc, 498)?;
+    assert_eq!(rt; height(&above), 500);
+    bind(&rt, &mut gamma, above, &defs, other)?;
+    let outcome = typed(&rt, alloc, &mut gamma, &query, &defs, other);
+    assert!(rt; matches!(outcome, Err(KindFault::TypeTooLarge { place: 3 })));
+    Ok(())
 }
 
 // `depth` loops over the variable `Made(0)`, each in the one before, the innermost at the place 0.
@@ -736,9 +1045,17 @@ fn nested_loops(alloc: Global, depth: u32) -> Result<Query, AllocError> {
 fn loops_in_loops_over_a_high_type(rt: HostRuntime) -> Result<(), Fail> {
     let alloc = rt.alloc();
     let defs = no_definitions(alloc)?;
-    let mut gamma = none_bound(alloc, &defs);
-    bind(&rt, &mut gamma, stars(alloc, 490)?, &defs)?;
-    let outcome = typed(alloc, &mut gamma, &nested_loops(alloc, 190)?, &defs);
+    let other = lone_label(&rt, alloc)?;
+    let mut gamma = none_bound(alloc, &defs, other);
+    bind(&rt, &mut gamma, stars(alloc, 490)?, &defs, other)?;
+    let outcome = typed(
+        &rt,
+        alloc,
+        &mut gamma,
+        &nested_loops(alloc, 190)?,
+        &defs,
+        other,
+    );
     assert!(rt; matches!(outcome, Err(KindFault::TypeTooLarge { place: 1 })));
     Ok(())
 }
@@ -764,9 +1081,17 @@ fn bound_in_a_loop(alloc: Global) -> Result<Query, AllocError> {
 fn a_binding_for_each_of_a_thousand_trees(rt: HostRuntime) -> Result<(), Fail> {
     let alloc = rt.alloc();
     let defs = no_definitions(alloc)?;
-    let mut gamma = none_bound(alloc, &defs);
-    bind(&rt, &mut gamma, thousand_texts(alloc)?, &defs)?;
-    match typed(alloc, &mut gamma, &bound_in_a_loop(alloc)?, &defs) {
+    let other = lone_label(&rt, alloc)?;
+    let mut gamma = none_bound(alloc, &defs, other);
+    bind(&rt, &mut gamma, thousand_texts(alloc)?, &defs, other)?;
+    match typed(
+        &rt,
+        alloc,
+        &mut gamma,
+        &bound_in_a_loop(alloc)?,
+        &defs,
+        other,
+    ) {
         Ok(ty) => assert_eq!(rt; size(&ty), 2_047),
         Err(_) => assert!(rt; false),
     }
@@ -828,9 +1153,10 @@ fn chained(rt: &impl Abort, alloc: Global) -> Result<Defs, Fail> {
 fn a_name_at_the_head_of_a_chain(rt: HostRuntime) -> Result<(), Fail> {
     let alloc = rt.alloc();
     let defs = chained(&rt, alloc)?;
+    let other = lone_label(&rt, alloc)?;
     let head = [Sign::Name(0)];
     let each = [Ask::For, Ask::Seen(0), Ask::Seen(1)];
-    assert_typed(&rt, alloc, &defs, &head, &each, &[TEXT])?;
+    assert_typed(&rt, alloc, &defs, other, &head, &each, &[TEXT])?;
     let texts = [Ask::Filter(Test::OfText), Ask::Seen(0)];
-    assert_typed(&rt, alloc, &defs, &head, &texts, &[TEXT])
+    assert_typed(&rt, alloc, &defs, other, &head, &texts, &[TEXT])
 }

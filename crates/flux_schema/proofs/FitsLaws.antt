@@ -6,11 +6,11 @@ use Rattle.flux_atom.specs.Atom.{kind_of}
 use Rattle.flux_trees.specs.Hedge.{Plain, nil, elem, leaf, join}
 use Rattle.flux_trees.specs.Hedge as hedge
 use Rattle.flux_trees.proofs.HedgeLaws.{size-join}
-use Rattle.flux_schema.specs.Ty.{Ty, empty, atom, element, seq, alt, star, named}
+use Rattle.flux_schema.specs.Ty.{Ty, empty, atom, element, any_element, seq, alt, star, named}
 use Rattle.flux_schema.specs.Definitions.{Definitions, body_of, StandsIn, IsGood, FallsAlong}
-use Rattle.flux_schema.specs.Member.{Member, in_empty, in_atom, in_element, in_seq, in_left, in_right, in_done, in_more, in_name}
+use Rattle.flux_schema.specs.Member.{Member, in_empty, in_atom, in_element, in_any, in_seq, in_left, in_right, in_done, in_more, in_name}
 use Rattle.flux_schema.specs.Tidy.{same_kind}
-use Rattle.flux_schema.specs.Fits.{is_nil, is_atom, is_element, any_split, repeats, fits, body_fits, name_fits, MembershipComputes}
+use Rattle.flux_schema.specs.Fits.{is_nil, is_atom, is_element, is_any, any_split, repeats, fits, body_fits, name_fits, MembershipComputes}
 use Rattle.flux_schema.proofs.SameLaws.{same_kind-eq, same_kind-same}
 use Rattle.flux_schema.proofs.Ranks.{rank_of, rank-falls, rank-bound}
 
@@ -66,6 +66,13 @@ module _ (defs : Definitions) where
   element-sound n t p f (elem a m v (leaf b x r)) e = cc
   element-sound n t p f (leaf a x r) e = cc
 
+  any-sound : (t : Ty) (p : Plain → Bool) → ((v : Plain) → p v ≡ true → Member defs v t) → (z : Plain) → is_any p z ≡ true → Member defs z (any_element t)
+  any-sound t p f nil e = cc
+  any-sound t p f (elem a m v nil) e = in_any m (f v e)
+  any-sound t p f (elem a m v (elem b l c r)) e = cc
+  any-sound t p f (elem a m v (leaf b x r)) e = cc
+  any-sound t p f (leaf a x r) e = cc
+
   repeats-sound : (t : Ty) (p : Plain → Bool) → ((v : Plain) → p v ≡ true → Member defs v t) → (n : ℕ) (z : Plain) → repeats p n z ≡ true → Member defs z (star t)
   repeats-sound t p f zero z e = subst (λ y. Member defs y (star t)) (sym (nil_is z e)) (in_done t)
   repeats-sound t p f (suc n) z e =
@@ -80,6 +87,7 @@ module _ (defs : Definitions) where
   fits-sound q f empty z e = subst (λ y. Member defs y empty) (sym (nil_is z e)) in_empty
   fits-sound q f (atom k) z e = atom-sound k z e
   fits-sound q f (element n t) z e = element-sound n t (fits q t) (fits-sound q f t) z e
+  fits-sound q f (any_element t) z e = any-sound t (fits q t) (fits-sound q f t) z e
   fits-sound q f (seq t u) z e =
       let s = from_split (λ v w. fits q t v && fits q u w) z e in
       let b = and_parts _ _ s.3 in
@@ -141,6 +149,8 @@ module _ (defs : Definitions) (rank : ℕ → ℕ) (r : ℕ) (falls : FallsAlong
   fits-complete (in_atom x is) k n b h = subst (λ l. same_kind (kind_of x) l ≡ true) is (same_kind-same (kind_of x))
   fits-complete (in_element m {v} {t} c) k n b h =
       and_from _ _ (eq-eqb m m refl) (fits-complete c r n (λ y s. bound y) (omega (arith, suc-mul (hedge.size v + 0) r, add-mul (hedge.size v) 0 r, zero-mul r, h)))
+  fits-complete (in_any m {v} {t} c) k n b h =
+      fits-complete c r n (λ y s. bound y) (omega (arith, suc-mul (hedge.size v + 0) r, add-mul (hedge.size v) 0 r, zero-mul r, h))
   fits-complete {z = z} (in_seq v w {t} {u} j c d) k n b h =
       let p = part_fits (hedge.size v) (hedge.size w) (hedge.size z) k n (ap hedge.size (sym j) ∙ size-join v w) h in
       to_split (λ v w. fits (name_fits defs n) t v && fits (name_fits defs n) u w) v w z j (and_from _ _ (fits-complete c k n (λ y s. b y (inl s)) p.0) (fits-complete d k n (λ y s. b y (inr s)) p.1))

@@ -2,7 +2,7 @@
 use Rattle.std.proofs.Common.{◌≡◌, ◌⊎◌, ◌<◌, ◌≤◌, ℕ, zero, suc, max, List, [], ◌∷◌, Option, Some, None, Bool, true, false, length, get_or, replicate, refl, sym, ap, subst, ◌∙◌, inl, inr, arith}
 use Rattle.std.proofs.lemmas.List.{length-set, length-replicate}
 use Rattle.std.proofs.Math.ListN.{set}
-use Rattle.flux_schema.specs.Ty.{Ty, empty, atom, element, seq, alt, star, named}
+use Rattle.flux_schema.specs.Ty.{Ty, empty, atom, element, any_element, seq, alt, star, named}
 use Rattle.flux_schema.specs.Definitions.{Definitions, body_of, StandsIn, Leads, Reaches, at_once, through, IsGood, FallsAlong}
 use Rattle.flux_schema.specs.Marks.{IsMarked, unmarked}
 use Rattle.flux_schema.proofs.MarkLaws.{le_or, marked-set, unmarked-set, none_marked}
@@ -24,6 +24,7 @@ abbrev pub most : (ℕ → ℕ) → Ty → ℕ
 most f empty = 0
 most f (atom k) = 0
 most f (element n t) = 0
+most f (any_element t) = 0
 most f (seq t u) = max (most f t) (most f u)
 most f (alt t u) = max (most f t) (most f u)
 most f (star t) = most f t
@@ -42,6 +43,7 @@ pub most-above : (f : ℕ → ℕ) (t : Ty) (y : ℕ) → StandsIn y t → f y <
 most-above f empty y h = absurd h
 most-above f (atom k) y h = absurd h
 most-above f (element n t) y h = absurd h
+most-above f (any_element t) y h = absurd h
 most-above f (seq t u) y (inl h) = omega (arith, most-above f t y h)
 most-above f (seq t u) y (inr h) = omega (arith, most-above f u y h)
 most-above f (alt t u) y (inl h) = omega (arith, most-above f t y h)
@@ -53,6 +55,7 @@ pub most-below : (f : ℕ → ℕ) (n : ℕ) (t : Ty) → ((y : ℕ) → StandsI
 most-below f n empty h = omega arith
 most-below f n (atom k) h = omega arith
 most-below f n (element m t) h = omega arith
+most-below f n (any_element t) h = omega arith
 most-below f n (seq t u) h = omega (arith, most-below f n t (λ y s. h y (inl s)), most-below f n u (λ y s. h y (inr s)))
 most-below f n (alt t u) h = omega (arith, most-below f n t (λ y s. h y (inl s)), most-below f n u (λ y s. h y (inr s)))
 most-below f n (star t) h = most-below f n t h
@@ -75,6 +78,7 @@ rises : (f g : ℕ → ℕ) (t : Ty) → most f t < most g t → Rises f g t
 rises f g empty h = absurd (omega (arith, h))
 rises f g (atom k) h = absurd (omega (arith, h))
 rises f g (element n t) h = absurd (omega (arith, h))
+rises f g (any_element t) h = absurd (omega (arith, h))
 rises f g (seq t u) h =
     elim (two_rise (most f t) (most f u) (most g t) (most g u) h) [ inl p ↦ rise_left f g t u (rises f g t p) | inr p ↦ rise_right f g t u (rises f g u p) ]
 rises f g (alt t u) h =
@@ -103,6 +107,7 @@ stands : (g : ℕ → ℕ) (t : Ty) → 0 < most g t → SomeStands t
 stands g empty h = absurd (omega (arith, h))
 stands g (atom k) h = absurd (omega (arith, h))
 stands g (element n t) h = absurd (omega (arith, h))
+stands g (any_element t) h = absurd (omega (arith, h))
 stands g (seq t u) h = elim (two_pos (most g t) (most g u) h) [ inl p ↦ stand_left t u (stands g t p) | inr p ↦ stand_right t u (stands g u p) ]
 stands g (alt t u) h = elim (two_pos (most g t) (most g u) h) [ inl p ↦ stand_left t u (stands g t p) | inr p ↦ stand_right t u (stands g u p) ]
 stands g (star t) h = stands g t h
@@ -188,6 +193,7 @@ most-bound : (f : ℕ → ℕ) (n : ℕ) → ((y : ℕ) → f y ≤ n) → (t : 
 most-bound f n h empty = omega arith
 most-bound f n h (atom k) = omega arith
 most-bound f n h (element m t) = omega arith
+most-bound f n h (any_element t) = omega arith
 most-bound f n h (seq t u) = omega (arith, most-bound f n h t, most-bound f n h u)
 most-bound f n h (alt t u) = omega (arith, most-bound f n h t, most-bound f n h u)
 most-bound f n h (star t) = most-bound f n h t

@@ -2,9 +2,9 @@
 use Rattle.std.proofs.Common.{◌≡◌, ℕ, Bool, true, false, cond, refl, sym, subst, ◌∙◌}
 use Rattle.flux_trees.specs.Hedge.{Plain, nil}
 use Rattle.flux_trees.proofs.HedgeLaws.{join-nil}
-use Rattle.flux_schema.specs.Ty.{Ty, empty, atom, element, seq, alt, star, named, NamesBelow}
+use Rattle.flux_schema.specs.Ty.{Ty, empty, atom, element, any_element, seq, alt, star, named, NamesBelow}
 use Rattle.flux_schema.specs.Definitions.{Definitions}
-use Rattle.flux_schema.specs.Member.{Member, in_empty, in_element, in_seq, in_left, in_right, in_done, in_more, SameMembers}
+use Rattle.flux_schema.specs.Member.{Member, in_empty, in_element, in_any, in_seq, in_left, in_right, in_done, in_more, SameMembers}
 use Rattle.flux_schema.specs.Tidy.{same, tidy_seq, tidy_alt, tidy_star, tidy}
 use Rattle.flux_schema.specs.TypeText.{IsWritable}
 use Rattle.flux_schema.proofs.SameLaws.{same-eq}
@@ -13,6 +13,9 @@ use Rattle.flux_schema.proofs.SameLaws.{same-eq}
 
 under_element : {defs : Definitions} {t u : Ty} → ((v : Plain) → Member defs v t → Member defs v u) → {n : ℕ} {v : Plain} → Member defs v (element n t) → Member defs v (element n u)
 under_element f (in_element n m) = in_element n (f _ m)
+
+under_any : {defs : Definitions} {t u : Ty} → ((v : Plain) → Member defs v t → Member defs v u) → {v : Plain} → Member defs v (any_element t) → Member defs v (any_element u)
+under_any f (in_any n m) = in_any n (f _ m)
 
 under_seq : {defs : Definitions} {t u t' u' : Ty} → ((v : Plain) → Member defs v t → Member defs v t') → ((v : Plain) → Member defs v u → Member defs v u') → {v : Plain} → Member defs v (seq t u) → Member defs v (seq t' u')
 under_seq f g (in_seq v w e m k) = in_seq v w e (f v m) (g w k)
@@ -74,6 +77,7 @@ pub tidy-members : (defs : Definitions) (t : Ty) → SameMembers defs t (tidy t)
 tidy-members defs empty = same_refl defs _
 tidy-members defs (atom k) = same_refl defs _
 tidy-members defs (element n t) = λ v. (under_element (λ w. (tidy-members defs t w).0), under_element (λ w. (tidy-members defs t w).1))
+tidy-members defs (any_element t) = λ v. (under_any (λ w. (tidy-members defs t w).0), under_any (λ w. (tidy-members defs t w).1))
 tidy-members defs (seq t u) = same_trans (λ v. (under_seq (λ w. (tidy-members defs t w).0) (λ w. (tidy-members defs u w).0), under_seq (λ w. (tidy-members defs t w).1) (λ w. (tidy-members defs u w).1))) (seq_step defs (tidy t) (tidy u))
 tidy-members defs (alt t u) = same_trans (λ v. (under_alt (λ w. (tidy-members defs t w).0) (λ w. (tidy-members defs u w).0), under_alt (λ w. (tidy-members defs t w).1) (λ w. (tidy-members defs u w).1))) (alt_step defs (tidy t) (tidy u))
 tidy-members defs (star t) = same_trans (λ v. (under_star (λ w. (tidy-members defs t w).0), under_star (λ w. (tidy-members defs t w).1))) (star_step defs (tidy t))
@@ -102,6 +106,7 @@ pub tidy_writable : (n : ℕ) (defs : Definitions) (t : Ty) → IsWritable n def
 tidy_writable n defs empty p = p
 tidy_writable n defs (atom k) p = p
 tidy_writable n defs (element m t) p = (p.0, tidy_writable n defs t p.1)
+tidy_writable n defs (any_element t) p = tidy_writable n defs t p
 tidy_writable n defs (seq t u) p = writable_seq n defs (tidy t) (tidy u) (tidy_writable n defs t p.0) (tidy_writable n defs u p.1)
 tidy_writable n defs (alt t u) p = writable_alt n defs (tidy t) (tidy u) (same (tidy t) (tidy u)) (tidy_writable n defs t p.0) (tidy_writable n defs u p.1)
 tidy_writable n defs (star t) p = writable_star n defs (tidy t) (tidy_writable n defs t p)

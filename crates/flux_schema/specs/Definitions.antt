@@ -1,7 +1,7 @@
 -- Named definitions of types: what is declared, what is defined, and which definitions are good.
 use Rattle.std.specs.Prelude.{◌≡◌, ◌⊎◌, ◌<◌, ℕ, zero, suc, List, [], ◌∷◌, Option, Some, None, length, map, slice_get}
 use Rattle.std.specs.Option.{option_map, option_flatten}
-use Rattle.flux_schema.specs.Ty.{Ty, empty, atom, element, seq, alt, star, named, NamesBelow}
+use Rattle.flux_schema.specs.Ty.{Ty, empty, atom, element, any_element, seq, alt, star, named, NamesBelow}
 
 -- a name, as its number in a table of names, and the type that it stands for
 pub record Definition : Type 0 where
@@ -48,6 +48,7 @@ abbrev pub StandsIn : ℕ → Ty → Type 0
 StandsIn x empty = ⊥
 StandsIn x (atom k) = ⊥
 StandsIn x (element n t) = ⊥
+StandsIn x (any_element t) = ⊥
 StandsIn x (seq t u) = StandsIn x t ⊎ StandsIn x u
 StandsIn x (alt t u) = StandsIn x t ⊎ StandsIn x u
 StandsIn x (star t) = StandsIn x t

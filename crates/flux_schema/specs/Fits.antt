@@ -4,7 +4,7 @@ use Rattle.flux_atom.specs.declared.atom.AtomKind.{AtomKind}
 use Rattle.flux_atom.specs.Atom.{kind_of}
 use Rattle.flux_trees.specs.Hedge.{Plain, nil, elem, leaf}
 use Rattle.flux_trees.specs.Hedge as hedge
-use Rattle.flux_schema.specs.Ty.{Ty, empty, atom, element, seq, alt, star, named}
+use Rattle.flux_schema.specs.Ty.{Ty, empty, atom, element, any_element, seq, alt, star, named}
 use Rattle.flux_schema.specs.Definitions.{Definitions, body_of}
 use Rattle.flux_schema.specs.Member.{Member}
 use Rattle.flux_schema.specs.Tidy.{same_kind}
@@ -23,6 +23,11 @@ abbrev pub is_element : ℕ → (Plain → Bool) → Plain → Bool
 is_element n p (elem _ m v nil) = (m == n) && p v
 is_element n p _ = false
 
+-- one element, of whatever label, whose content passes
+abbrev pub is_any : (Plain → Bool) → Plain → Bool
+is_any p (elem _ m v nil) = p v
+is_any p _ = false
+
 -- the forest can be split so that the two parts pass
 abbrev pub any_split : (Plain → Plain → Bool) → Plain → Bool
 any_split p nil = p nil nil
@@ -39,6 +44,7 @@ abbrev pub fits : (ℕ → Plain → Bool) → Ty → Plain → Bool
 fits q empty z = is_nil z
 fits q (atom k) z = is_atom k z
 fits q (element n t) z = is_element n (fits q t) z
+fits q (any_element t) z = is_any (fits q t) z
 fits q (seq t u) z = any_split (λ v w. fits q t v && fits q u w) z
 fits q (alt t u) z = fits q t z || fits q u z
 fits q (star t) z = repeats (fits q t) (hedge.size z) z

@@ -4,7 +4,7 @@ use Rattle.flux_atom.specs.declared.atom.Atom.{Atom}
 use Rattle.flux_atom.specs.declared.atom.AtomKind.{AtomKind}
 use Rattle.flux_atom.specs.Atom.{kind_of}
 use Rattle.flux_trees.specs.Hedge.{Plain, nil, elem, leaf, join}
-use Rattle.flux_schema.specs.Ty.{Ty, empty, atom, element, seq, alt, star, named}
+use Rattle.flux_schema.specs.Ty.{Ty, empty, atom, element, any_element, seq, alt, star, named}
 use Rattle.flux_schema.specs.Definitions.{Definitions, body_of}
 
 pub data Member (defs : Definitions) : Plain → Ty → Type 0 where
@@ -15,6 +15,9 @@ pub data Member (defs : Definitions) : Plain → Ty → Type 0 where
   -- one element with the label, whose content is a member
   in_element : (n : ℕ) {v : Plain} {t : Ty} →
       Member defs v t → Member defs (elem tt n v nil) (element n t)
+  -- one element, of whatever label, whose content is a member
+  in_any : (n : ℕ) {v : Plain} {t : Ty} →
+      Member defs v t → Member defs (elem tt n v nil) (any_element t)
   -- a member of the first and then one of the second
   in_seq : {z : Plain} (v w : Plain) {t u : Ty} →
       join v w ≡ z → Member defs v t → Member defs w u → Member defs z (seq t u)

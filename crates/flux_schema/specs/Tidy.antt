@@ -1,6 +1,6 @@
 -- Types with what adds nothing taken away.
 use Rattle.std.specs.Prelude.{if◌then◌else◌}
-use Rattle.flux_schema.specs.Ty.{Ty, empty, atom, element, seq, alt, star, named}
+use Rattle.flux_schema.specs.Ty.{Ty, empty, atom, element, any_element, seq, alt, star, named}
 pub use Rattle.flux_schema.specs.Same.{same_kind, same}
 
 -- `(),t` and `t,()` are t
@@ -23,6 +23,7 @@ abbrev pub tidy : Ty → Ty
 tidy empty = empty
 tidy (atom k) = atom k
 tidy (element n t) = element n (tidy t)
+tidy (any_element t) = any_element (tidy t)
 tidy (seq t u) = tidy_seq (tidy t) (tidy u)
 tidy (alt t u) = tidy_alt (tidy t) (tidy u)
 tidy (star t) = tidy_star (tidy t)

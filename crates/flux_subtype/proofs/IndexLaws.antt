@@ -5,14 +5,14 @@ use Rattle.std.proofs.lemmas.Option.{slice_get_within}
 use Rattle.flux_atom.specs.declared.atom.AtomKind.{AtomKind}
 use Rattle.flux_atom.specs.declared.atom.AtomKind.TheVariants as kind
 use Rattle.flux_auto.specs.declared.edge.Edge.{Edge}
-use Rattle.flux_auto.specs.declared.edge.Edge.TheVariants.{Atom, Elem}
+use Rattle.flux_auto.specs.declared.edge.Edge.TheVariants.{Atom, Elem, AnyElem}
 use Rattle.flux_auto.specs.Takes.{State, has}
 use Rattle.flux_subtype.specs.declared.index.Move.{Move}
 use Rattle.flux_subtype.specs.declared.index.Link.{Link}
 use Rattle.flux_subtype.specs.declared.index.Group.{Group}
 use Rattle.flux_subtype.specs.declared.index.Index.{Index}
-use Rattle.flux_subtype.specs.Going.{Has, HasEdge}
-use Rattle.flux_subtype.specs.Index.{Moves, Links, HasLink, moves_of, Listed, Differ, AreWide, AreWideLinks, AreWideGroups, IsWide, AddsMove, AddsLink, FindsLink, FindsGroup, AddsEdge, AddsEdges, IndexesBelow, Indexes, IndexesGroups, Follows, ByLinks}
+use Rattle.flux_subtype.specs.Going.{Has, HasEdge, IsEdgeLabel}
+use Rattle.flux_subtype.specs.Index.{Moves, Links, HasLink, HasGroup, moves_of, Listed, Differ, AreWide, AreWideLinks, AreWideGroups, IsWide, AddsMove, AddsLink, FindsLink, FindsGroup, AddsEdge, AddsEdges, IndexesBelow, Indexes, IndexesElements, Follows, ByLinks}
 use Rattle.flux_auto.proofs.Items.{get-end, get-set_here, get-set_other, some_is, same_or_not}
 use Rattle.flux_subtype.proofs.Items.{get-push, below_or_at, has-append, has-last, has-push, has-nil, has-right, has-split, has-set, set-has}
 
@@ -140,7 +140,7 @@ link_more n old mid new s c r i l x wide finds here is same adds = record {
 -- ---- groups that are found
 
 pub group_here : (groups : List Group) (n i : ℕ) → (g : Group) × (slice_get groups i ≡ Some g) × (g.label ≡ n) → FindsGroup groups groups n i
-group_here groups n i there = record { there = there; differ = λ d. d; wide = λ k w. w; same = λ t m d q. ((λ h. h), (λ h. h)) }
+group_here groups n i there = record { there = there; differ = λ d. d; wide = λ k w. w; same = λ t m d q. ((λ h. h), (λ h. h)); labels = λ m h. inl h }
 
 pub group_new : (old new : List Group) (n i : ℕ) (x : Group) → new ≡ old ++ x ∷ [] → i ≡ length old → x.label ≡ n → x.links.items ≡ [] → ((h : Group) → Has old h → h.label ≡ n → ⊥) → FindsGroup old new n i
 group_new old new n i x is at label none fresh = record {
@@ -157,6 +157,10 @@ group_new old new n i x is at label none fresh = record {
     ]),
     (λ h. subst (λ l. HasLink l t m d q) (sym is) (h.0, has-append old (x ∷ []) h.0 h.1, h.2, h.3)),
   );
+  labels = λ m h. elim (has-push old x h.0 (subst (λ l. Has l h.0) is h.1)) [
+    | inl was ↦ inl (h.0, was, h.2)
+    | inr e ↦ inr (sym h.2 ∙ ap (λ (z : Group). z.label) (sym e) ∙ label)
+  ];
 }
   where
     differ : Differ old → Differ (old ++ x ∷ [])
@@ -170,62 +174,130 @@ group_new old new n i x is at label none fresh = record {
 
 -- ---- one edge
 
-wide_kinds : (n : ℕ) (bools texts : List Move) (index : Index) → index.bools.items ≡ bools → index.texts.items ≡ texts → AreWide n bools → AreWide n texts → (k : AtomKind) → AreWide n (moves_of index k)
-wide_kinds n bools texts index e f one two kind.Bool = subst (AreWide n) (sym e) one
-wide_kinds n bools texts index e f one two kind.Text = subst (AreWide n) (sym f) two
+-- whether a kind is another
+kind_or : (j k : AtomKind) → (j ≡ k) ⊎ (j ≡ k → ⊥)
+kind_or kind.Bool kind.Bool = inl refl
+kind_or kind.Text kind.Text = inl refl
+kind_or kind.Int kind.Int = inl refl
+kind_or kind.Bool kind.Text = inr (λ e. cc)
+kind_or kind.Bool kind.Int = inr (λ e. cc)
+kind_or kind.Text kind.Bool = inr (λ e. cc)
+kind_or kind.Text kind.Int = inr (λ e. cc)
+kind_or kind.Int kind.Bool = inr (λ e. cc)
+kind_or kind.Int kind.Text = inr (λ e. cc)
 
--- an index with a move by truth values more
-pub adds_bool : (n : ℕ) (old new : Index) (s r : ℕ) → IsWide n old → AddsMove n old.bools.items new.bools.items s r → new.texts.items ≡ old.texts.items → new.groups.items ≡ old.groups.items → AddsEdge n old new s (Atom kind.Bool r)
-adds_bool n old new s r wide adds f g = record {
+-- an index with a move by atoms of a kind more
+adds_atom : (n : ℕ) (old new : Index) (s r : ℕ) (k : AtomKind) → IsWide n old → AddsMove n (moves_of old k) (moves_of new k) s r → ((j : AtomKind) → (j ≡ k → ⊥) → moves_of new j ≡ moves_of old j) → new.any.items ≡ old.any.items
+    → new.groups.items ≡ old.groups.items → AddsEdge n old new s (Atom k r)
+adds_atom n old new s r k wide adds others any g = record {
   differ = λ d. subst Differ (sym g) d;
-  wide = record { kinds = wide_kinds n _ _ new refl f adds.wide (wide.kinds kind.Text); groups = subst (AreWideGroups n) (sym g) wide.groups };
+  wide = record {
+    kinds = λ j. elim (kind_or j k) [ inl e ↦ subst (λ i. AreWide n (moves_of new i)) (sym e) adds.wide | inr ne ↦ subst (AreWide n) (sym (others j ne)) (wide.kinds j) ];
+    any = subst (AreWideLinks n) (sym any) wide.any;
+    groups = subst (AreWideGroups n) (sym g) wide.groups;
+  };
   listed = at;
+  labels = λ m h. inl (subst (λ l. HasGroup l m) g h);
 }
   where
-    at : (t : ℕ) (x : Edge) → Listed new t x ↔ (Listed old t x ⊎ ((t ≡ s) × (x ≡ Atom kind.Bool r)))
-    at t (Atom kind.Bool q) = (
-      (λ h. elim ((adds.moves t q).0 h) [ inl k ↦ inl k | inr p ↦ inr (p.0, ap (Atom kind.Bool) p.1) ]),
-      (λ h. (adds.moves t q).1 (elim h [ inl k ↦ inl k | inr p ↦ inr (p.0, (let same = p.1 in cc)) ])),
-    )
-    at t (Atom kind.Text q) = (
-      (λ h. inl (subst (λ l. Moves l t q) f h)),
-      (λ h. elim h [ inl k ↦ subst (λ l. Moves l t q) (sym f) k | inr p ↦ absurd (let same = p.1 in let un : kind.Text ≡ kind.Bool = cc in cc) ]),
-    )
-    at t (Elem n c q) = (
-      (λ h. inl (subst (λ l. HasLink l t n c q) g h)),
-      (λ h. elim h [ inl k ↦ subst (λ l. HasLink l t n c q) (sym g) k | inr p ↦ absurd (let same = p.1 in cc) ]),
+    here : (t q : ℕ) → Listed new t (Atom k q) ↔ (Listed old t (Atom k q) ⊎ ((t ≡ s) × (Atom k q ≡ Atom k r)))
+    here t q = (
+      (λ h. elim ((adds.moves t q).0 h) [ inl o ↦ inl o | inr p ↦ inr (p.0, ap (Atom k) p.1) ]),
+      (λ h. (adds.moves t q).1 (elim h [ inl o ↦ inl o | inr p ↦ inr (p.0, (let same = p.1 in cc)) ])),
     )
 
-pub adds_text : (n : ℕ) (old new : Index) (s r : ℕ) → IsWide n old → AddsMove n old.texts.items new.texts.items s r → new.bools.items ≡ old.bools.items → new.groups.items ≡ old.groups.items → AddsEdge n old new s (Atom kind.Text r)
-adds_text n old new s r wide adds f g = record {
+    at : (t : ℕ) (x : Edge) → Listed new t x ↔ (Listed old t x ⊎ ((t ≡ s) × (x ≡ Atom k r)))
+    at t (Atom j q) = elim (kind_or j k) [
+      | inl e ↦ subst (λ i. Listed new t (Atom i q) ↔ (Listed old t (Atom i q) ⊎ ((t ≡ s) × (Atom i q ≡ Atom k r)))) (sym e) (here t q)
+      | inr ne ↦ (
+        (λ h. inl (subst (λ l. Moves l t q) (others j ne) h)),
+        (λ h. elim h [ inl o ↦ subst (λ l. Moves l t q) (sym (others j ne)) o | inr p ↦ absurd (let same = p.1 in let e : j ≡ k = cc in ne e) ]),
+      )
+    ]
+    at t (AnyElem c q) = (
+      (λ h. inl (subst (λ l. Links l t c q) any h)),
+      (λ h. elim h [ inl o ↦ subst (λ l. Links l t c q) (sym any) o | inr p ↦ absurd (let same = p.1 in cc) ]),
+    )
+    at t (Elem m c q) = (
+      (λ h. inl (subst (λ l. HasLink l t m c q) g h)),
+      (λ h. elim h [ inl o ↦ subst (λ l. HasLink l t m c q) (sym g) o | inr p ↦ absurd (let same = p.1 in cc) ]),
+    )
+
+pub adds_bool : (n : ℕ) (old new : Index) (s r : ℕ) → IsWide n old → AddsMove n old.bools.items new.bools.items s r → new.texts.items ≡ old.texts.items → new.numbers.items ≡ old.numbers.items → new.any.items ≡ old.any.items
+    → new.groups.items ≡ old.groups.items → AddsEdge n old new s (Atom kind.Bool r)
+adds_bool n old new s r wide adds texts numbers any g = adds_atom n old new s r kind.Bool wide adds others any g
+  where
+    others : (j : AtomKind) → (j ≡ kind.Bool → ⊥) → moves_of new j ≡ moves_of old j
+    others kind.Bool ne = absurd (ne refl)
+    others kind.Text ne = texts
+    others kind.Int ne = numbers
+
+pub adds_text : (n : ℕ) (old new : Index) (s r : ℕ) → IsWide n old → AddsMove n old.texts.items new.texts.items s r → new.bools.items ≡ old.bools.items → new.numbers.items ≡ old.numbers.items → new.any.items ≡ old.any.items
+    → new.groups.items ≡ old.groups.items → AddsEdge n old new s (Atom kind.Text r)
+adds_text n old new s r wide adds bools numbers any g = adds_atom n old new s r kind.Text wide adds others any g
+  where
+    others : (j : AtomKind) → (j ≡ kind.Text → ⊥) → moves_of new j ≡ moves_of old j
+    others kind.Bool ne = bools
+    others kind.Text ne = absurd (ne refl)
+    others kind.Int ne = numbers
+
+pub adds_number : (n : ℕ) (old new : Index) (s r : ℕ) → IsWide n old → AddsMove n old.numbers.items new.numbers.items s r → new.bools.items ≡ old.bools.items → new.texts.items ≡ old.texts.items → new.any.items ≡ old.any.items
+    → new.groups.items ≡ old.groups.items → AddsEdge n old new s (Atom kind.Int r)
+adds_number n old new s r wide adds bools texts any g = adds_atom n old new s r kind.Int wide adds others any g
+  where
+    others : (j : AtomKind) → (j ≡ kind.Int → ⊥) → moves_of new j ≡ moves_of old j
+    others kind.Bool ne = bools
+    others kind.Text ne = texts
+    others kind.Int ne = absurd (ne refl)
+
+same_kinds : (old new : Index) → new.bools.items ≡ old.bools.items → new.texts.items ≡ old.texts.items → new.numbers.items ≡ old.numbers.items → (k : AtomKind) → moves_of new k ≡ moves_of old k
+same_kinds old new e f g kind.Bool = e
+same_kinds old new e f g kind.Text = f
+same_kinds old new e f g kind.Int = g
+
+-- an index with a link by elements of any label more
+pub adds_any : (n : ℕ) (old new : Index) (s c r : ℕ) → IsWide n old → AddsLink n old.any.items new.any.items s c r → new.bools.items ≡ old.bools.items → new.texts.items ≡ old.texts.items → new.numbers.items ≡ old.numbers.items
+    → new.groups.items ≡ old.groups.items → AddsEdge n old new s (AnyElem c r)
+adds_any n old new s c r wide adds bools texts numbers g = record {
   differ = λ d. subst Differ (sym g) d;
-  wide = record { kinds = wide_kinds n _ _ new f refl (wide.kinds kind.Bool) adds.wide; groups = subst (AreWideGroups n) (sym g) wide.groups };
+  wide = record { kinds = λ j. subst (AreWide n) (sym (kinds j)) (wide.kinds j); any = adds.wide; groups = subst (AreWideGroups n) (sym g) wide.groups };
   listed = at;
+  labels = λ m h. inl (subst (λ l. HasGroup l m) g h);
 }
   where
-    at : (t : ℕ) (x : Edge) → Listed new t x ↔ (Listed old t x ⊎ ((t ≡ s) × (x ≡ Atom kind.Text r)))
-    at t (Atom kind.Text q) = (
-      (λ h. elim ((adds.moves t q).0 h) [ inl k ↦ inl k | inr p ↦ inr (p.0, ap (Atom kind.Text) p.1) ]),
-      (λ h. (adds.moves t q).1 (elim h [ inl k ↦ inl k | inr p ↦ inr (p.0, (let same = p.1 in cc)) ])),
+    kinds : (k : AtomKind) → moves_of new k ≡ moves_of old k
+    kinds = same_kinds old new bools texts numbers
+
+    at : (t : ℕ) (x : Edge) → Listed new t x ↔ (Listed old t x ⊎ ((t ≡ s) × (x ≡ AnyElem c r)))
+    at t (Atom j q) = (
+      (λ h. inl (subst (λ l. Moves l t q) (kinds j) h)),
+      (λ h. elim h [ inl o ↦ subst (λ l. Moves l t q) (sym (kinds j)) o | inr p ↦ absurd (let same = p.1 in cc) ]),
     )
-    at t (Atom kind.Bool q) = (
-      (λ h. inl (subst (λ l. Moves l t q) f h)),
-      (λ h. elim h [ inl k ↦ subst (λ l. Moves l t q) (sym f) k | inr p ↦ absurd (let same = p.1 in let un : kind.Bool ≡ kind.Text = cc in cc) ]),
+    at t (AnyElem d q) = (
+      (λ h. elim ((adds.links t d q).0 h) [ inl o ↦ inl o | inr p ↦ inr (p.0, ap (λ z. AnyElem z q) p.1 ∙ ap (AnyElem c) p.2) ]),
+      (λ h. (adds.links t d q).1 (elim h [ inl o ↦ inl o | inr p ↦ inr (p.0, (let same = p.1 in cc), (let same = p.1 in cc)) ])),
     )
-    at t (Elem n c q) = (
-      (λ h. inl (subst (λ l. HasLink l t n c q) g h)),
-      (λ h. elim h [ inl k ↦ subst (λ l. HasLink l t n c q) (sym g) k | inr p ↦ absurd (let same = p.1 in cc) ]),
+    at t (Elem m d q) = (
+      (λ h. inl (subst (λ l. HasLink l t m d q) g h)),
+      (λ h. elim h [ inl o ↦ subst (λ l. HasLink l t m d q) (sym g) o | inr p ↦ absurd (let same = p.1 in cc) ]),
     )
 
 -- the group at a place has one link more
-pub adds_link : (k : ℕ) (old new : Index) (mid : List Group) (s n c r i : ℕ) (g x : Group) → IsWide k old → new.bools.items ≡ old.bools.items → new.texts.items ≡ old.texts.items → FindsGroup old.groups.items mid n i
+pub adds_link : (k : ℕ) (old new : Index) (mid : List Group) (s n c r i : ℕ) (g x : Group) → IsWide k old → new.bools.items ≡ old.bools.items → new.texts.items ≡ old.texts.items → new.numbers.items ≡ old.numbers.items → new.any.items ≡ old.any.items → FindsGroup old.groups.items mid n i
     → slice_get mid i ≡ Some g → new.groups.items ≡ set mid i x → x.label ≡ g.label → AddsLink k g.links.items x.links.items s c r → AddsEdge k old new s (Elem n c r)
-adds_link k old new mid s n c r i g x wide e f finds here is same adds = record {
+adds_link k old new mid s n c r i g x wide e f v any finds here is same adds = record {
   differ = λ d. subst Differ (sym is) (differ (finds.differ d));
-  wide = record { kinds = wide_kinds k _ _ new e f (wide.kinds kind.Bool) (wide.kinds kind.Text); groups = wider };
+  wide = record { kinds = λ j. subst (AreWide k) (sym (kinds j)) (wide.kinds j); any = subst (AreWideLinks k) (sym any) wide.any; groups = wider };
   listed = at;
+  labels = λ m h. elim (has-set mid i x h.0 (subst (λ l. Has l h.0) is h.1)) [
+    | inl y_is ↦ inr (c, r, ap (λ z. Elem z c r) (sym label ∙ sym same ∙ ap (λ (z : Group). z.label) (sym y_is) ∙ h.2))
+    | inr o ↦ elim (finds.labels m (h.0, (o.0, o.2), h.2)) [ inl was ↦ inl was | inr m_is ↦ inr (c, r, ap (λ z. Elem z c r) (sym m_is)) ]
+  ];
 }
   where
+    kinds : (j : AtomKind) → moves_of new j ≡ moves_of old j
+    kinds = same_kinds old new e f v
+
     inside : i < length mid
     inside = slice_get_within mid i g here
 
@@ -278,13 +350,13 @@ adds_link k old new mid s n c r i g x wide e f finds here is same adds = record 
     back t m d q (inr p) = (x, at_place, same ∙ label ∙ sym p.1, (adds.links t d q).1 (inr (p.0, p.2, p.3)))
 
     at : (t : ℕ) (y : Edge) → Listed new t y ↔ (Listed old t y ⊎ ((t ≡ s) × (y ≡ Elem n c r)))
-    at t (Atom kind.Bool q) = (
-      (λ h. inl (subst (λ l. Moves l t q) e h)),
-      (λ h. elim h [ inl k ↦ subst (λ l. Moves l t q) (sym e) k | inr p ↦ absurd (let same = p.1 in cc) ]),
+    at t (Atom j q) = (
+      (λ h. inl (subst (λ l. Moves l t q) (kinds j) h)),
+      (λ h. elim h [ inl o ↦ subst (λ l. Moves l t q) (sym (kinds j)) o | inr p ↦ absurd (let same = p.1 in cc) ]),
     )
-    at t (Atom kind.Text q) = (
-      (λ h. inl (subst (λ l. Moves l t q) f h)),
-      (λ h. elim h [ inl k ↦ subst (λ l. Moves l t q) (sym f) k | inr p ↦ absurd (let same = p.1 in cc) ]),
+    at t (AnyElem d q) = (
+      (λ h. inl (subst (λ l. Links l t d q) any h)),
+      (λ h. elim h [ inl o ↦ subst (λ l. Links l t d q) (sym any) o | inr p ↦ absurd (let same = p.1 in cc) ]),
     )
     at t (Elem m d q) = (
       (λ h. elim (forth t m d q (subst (λ l. HasLink l t m d q) is h)) [
@@ -297,10 +369,11 @@ adds_link k old new mid s n c r i g x wide e f finds here is same adds = record 
 -- ---- edges, one after another
 
 pub no_edges : (n : ℕ) (index : Index) (s : ℕ) (es : List Edge) → IsWide n index → AddsEdges n index index s es 0
-no_edges n index s es wide = record { differ = λ d. d; wide = wide; listed = λ t f. ((λ h. inl h), (λ h. elim h [ inl k ↦ k | inr p ↦ absurd (let l = p.2 in omega (arith, l)) ])) }
+no_edges n index s es wide = record { differ = λ d. d; wide = wide; listed = λ t f. ((λ h. inl h), (λ h. elim h [ inl k ↦ k | inr p ↦ absurd (let l = p.2 in omega (arith, l)) ])); labels = λ m h. inl h }
 
 pub next_edge : (n : ℕ) (old mid new : Index) (s : ℕ) (es : List Edge) (k : ℕ) (e : Edge) → AddsEdges n old mid s es k → slice_get es k ≡ Some e → AddsEdge n mid new s e → AddsEdges n old new s es (k + 1)
 next_edge n old mid new s es k e before is one = record {
+  labels = λ m h. elim (one.labels m h) [ inl o ↦ before.labels m o | inr x ↦ inr (x.0, x.1, (k, is ∙ ap Some x.2)) ];
   differ = λ d. one.differ (before.differ d);
   wide = one.wide;
   listed = λ t f. ((λ h. forth t f ((one.listed t f).0 h)), (λ h. (one.listed t f).1 (back t f h)));
@@ -319,6 +392,7 @@ next_edge n old mid new s es k e before is one = record {
 
 pub next_state : (a : List State) (old new : Index) (s : ℕ) (st : State) → IndexesBelow a s old → slice_get a s ≡ Some st → AddsEdges (length a) old new s st.edges (length st.edges) → IndexesBelow a (s + 1) new
 next_state a old new s st before is one = record {
+  labels = λ m h. elim (one.labels m h) [ inl o ↦ before.labels m o | inr x ↦ (s, x.0, x.1, (st, is, x.2)) ];
   differ = one.differ before.differ;
   wide = one.wide;
   listed = λ t f. ((λ h. forth t f ((one.listed t f).0 h)), (λ h. (one.listed t f).1 (back t f h)));
@@ -337,20 +411,27 @@ next_state a old new s st before is one = record {
           inr (same, i, slice_get_within st.edges i f here, here)
     ]
 
-pub no_states : (a : List State) (index : Index) → index.bools.items ≡ [] → index.texts.items ≡ [] → index.groups.items ≡ [] → IndexesBelow a 0 index
-no_states a index e f g = record {
+pub no_states : (a : List State) (index : Index) → index.bools.items ≡ [] → index.texts.items ≡ [] → index.numbers.items ≡ [] → index.any.items ≡ [] → index.groups.items ≡ [] → IndexesBelow a 0 index
+no_states a index e f v u g = record {
+  labels = λ m h. absurd (has-nil h.0 (subst (λ l. Has l h.0) g h.1));
   differ = λ i j x y p. absurd (let h : slice_get [] i ≡ Some x = ap (λ l. slice_get l i) (sym g) ∙ p in cc);
-  wide = record { kinds = wide_kinds (length a) [] [] index e f (λ m h. absurd (has-nil m h)) (λ m h. absurd (has-nil m h)); groups = λ x h. absurd (has-nil x (subst (λ l. Has l x) g h)) };
+  wide = record { kinds = λ k m h. absurd (has-nil m (subst (λ l. Has l m) (kinds k) h)); any = λ x h. absurd (has-nil x (subst (λ l. Has l x) u h)); groups = λ x h. absurd (has-nil x (subst (λ l. Has l x) g h)) };
   listed = at;
 }
   where
+    kinds : (k : AtomKind) → moves_of index k ≡ []
+    kinds kind.Bool = e
+    kinds kind.Text = f
+    kinds kind.Int = v
+
     at : (s : ℕ) (x : Edge) → Listed index s x ↔ ((s < 0) × HasEdge a s x)
-    at s (Atom kind.Bool r) = ((λ h. absurd (has-nil h.0 (subst (λ l. Has l h.0) e h.1))), (λ h. absurd (let l = h.0 in omega (arith, l))))
-    at s (Atom kind.Text r) = ((λ h. absurd (has-nil h.0 (subst (λ l. Has l h.0) f h.1))), (λ h. absurd (let l = h.0 in omega (arith, l))))
+    at s (Atom k r) = ((λ h. absurd (has-nil h.0 (subst (λ l. Has l h.0) (kinds k) h.1))), (λ h. absurd (let l = h.0 in omega (arith, l))))
+    at s (AnyElem c r) = ((λ h. absurd (has-nil h.0 (subst (λ l. Has l h.0) u h.1))), (λ h. absurd (let l = h.0 in omega (arith, l))))
     at s (Elem n c r) = ((λ h. absurd (has-nil h.0 (subst (λ l. Has l h.0) g h.1))), (λ h. absurd (let l = h.0 in omega (arith, l))))
 
 pub all_states : (a : List State) (index : Index) (n : ℕ) → length a ≤ n → IndexesBelow a n index → Indexes a index
 all_states a index n le below = record {
+  labels = below.labels;
   differ = below.differ;
   wide = below.wide;
   listed = λ s e. ((λ h. ((below.listed s e).0 h).1), (λ h. (below.listed s e).1 ((let l = slice_get_within a s h.0 h.1 in omega (arith, l)), h)));
@@ -418,14 +499,25 @@ all_links links p moves k le below s r = (
 
 -- ---- groups
 
-pub indexed_groups : (a : List State) (index : Index) → Indexes a index → IndexesGroups a index.groups.items
-indexed_groups a index i = record { differ = i.differ; wide = i.wide.groups; links = λ s n c r. i.listed s (Elem n c r) }
+pub indexed_elements : (a : List State) (index : Index) → Indexes a index → IndexesElements a index.groups.items index.any.items
+indexed_elements a index i = record {
+  differ = i.differ;
+  wide = i.wide.groups;
+  wide_any = i.wide.any;
+  links = λ s n c r. i.listed s (Elem n c r);
+  any_links = λ s c r. i.listed s (AnyElem c r);
+  labels = i.labels;
+}
 
--- the moves along the links of a group are those by the links of its label
-pub group_moves : (groups : List Group) (g : Group) (k : ℕ) (p : List Bool) (moves : List Move) → Differ groups → slice_get groups k ≡ Some g → Follows g.links.items p moves → ByLinks groups g.label p moves
-group_moves groups g k p moves differ is follows s r = (
-  (λ h. let q = (follows s r).0 h in (q.0, (g, (k, is), refl, q.1), q.2)),
-  (λ h. (follows s r).1 (h.0, same h.1, h.2)),
+-- the moves along the links of a group, and then those by any label, are those by the links of its
+-- label
+pub group_moves : (groups : List Group) (any : List Link) (g : Group) (k : ℕ) (p : List Bool) (own wide moves : List Move) → Differ groups → slice_get groups k ≡ Some g → Follows g.links.items p own → Follows any p wide → moves ≡ own ++ wide → ByLinks groups any g.label p moves
+group_moves groups any g k p own wide moves differ is follows others e s r = (
+  (λ h. elim (moves_split own wide s r (subst (λ ms. Moves ms s r) e h)) [
+    | inl m ↦ (let q = (follows s r).0 m in (q.0, inl (g, (k, is), refl, q.1), q.2))
+    | inr m ↦ (let q = (others s r).0 m in (q.0, inr q.1, q.2))
+  ]),
+  (λ h. subst (λ ms. Moves ms s r) (sym e) (back h.0 h.1 h.2)),
 )
   where
     same : {c : ℕ} → HasLink groups s g.label c r → Links g.links.items s c r
@@ -433,9 +525,19 @@ group_moves groups g k p moves differ is follows s r = (
         let at_k : slice_get groups k ≡ Some x = ap (slice_get groups) (sym (differ j k x g at is lab)) ∙ at in
         subst (λ (z : Group). Links z.links.items s c r) (some_is x g (sym at_k ∙ is)) l
 
--- a label with no group has no links
-pub no_group : (groups : List Group) (n : ℕ) (p : List Bool) → ((g : Group) → Has groups g → g.label ≡ n → ⊥) → ByLinks groups n p []
-no_group groups n p none s r = ((λ h. absurd (has-nil h.0 h.1)), (λ h. let l = h.1 in absurd (none l.0 l.1 l.2)))
+    back : (c : ℕ) → HasLink groups s g.label c r ⊎ Links any s c r → has p c ≡ true → Moves (own ++ wide) s r
+    back c (inl l) on = moves_left own wide s r ((follows s r).1 (c, same l, on))
+    back c (inr l) on = moves_right own wide s r ((others s r).1 (c, l, on))
+
+pub wide_both : (n : ℕ) (own wide moves : List Move) → moves ≡ own ++ wide → AreWide n own → AreWide n wide → AreWide n moves
+wide_both n own wide moves e f g m h = elim (has-split own wide m (subst (λ ms. Has ms m) e h)) [ inl k ↦ f m k | inr k ↦ g m k ]
+
+-- a label that no link has goes by those of any label alone
+pub no_group : (groups : List Group) (any : List Link) (n : ℕ) (p : List Bool) (wide : List Move) → Follows any p wide → ((s c r : ℕ) → HasLink groups s n c r → ⊥) → ByLinks groups any n p wide
+no_group groups any n p wide follows none s r = (
+  (λ h. let q = (follows s r).0 h in (q.0, inr q.1, q.2)),
+  (λ h. elim h.1 [ inl l ↦ absurd (none s h.0 r l) | inr l ↦ (follows s r).1 (h.0, l, h.2) ]),
+)
 
 pub next_group : (groups : List Group) (k n : ℕ) (x : Group) → ((j : ℕ) (g : Group) → j < k → slice_get groups j ≡ Some g → g.label ≡ n → ⊥) → slice_get groups k ≡ Some x → (x.label ≡ n → ⊥)
     → (j : ℕ) (g : Group) → j < k + 1 → slice_get groups j ≡ Some g → g.label ≡ n → ⊥

@@ -10,3 +10,4 @@ pub mod Turning
 pub mod Many
 pub mod Performing
 pub mod Searching
+pub mod Deciding

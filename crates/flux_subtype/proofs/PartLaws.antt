@@ -5,10 +5,10 @@ use Rattle.flux_atom.specs.declared.atom.Atom.{Atom as Value}
 use Rattle.flux_atom.specs.Atom.{kind_of}
 use Rattle.flux_trees.specs.Hedge.{Plain, nil, elem, leaf}
 use Rattle.flux_auto.specs.declared.edge.Edge.{Edge}
-use Rattle.flux_auto.specs.declared.edge.Edge.TheVariants.{Atom, Elem}
+use Rattle.flux_auto.specs.declared.edge.Edge.TheVariants.{Atom, Elem, AnyElem}
 use Rattle.flux_auto.specs.Takes.{State, has, takes, EdgeBelow, EdgesBelow}
 use Rattle.flux_auto.specs.Automaton.{EdgesInside}
-use Rattle.flux_subtype.specs.Going.{Has, HasEdge}
+use Rattle.flux_subtype.specs.Going.{Has, HasEdge, HasElement}
 use Rattle.flux_subtype.specs.Part.{LeadInside, LeadsInto, AllLeadInto, IsClosed, missing, Extends, bare, part_of, IsPartOf}
 use Rattle.flux_auto.proofs.Items.{some_is}
 use Rattle.flux_subtype.proofs.Items.{below_or_at, grows-refl, grows-trans, grows-has, has-append, has-last, has-push, has-nil}
@@ -111,6 +111,19 @@ below_inside : (n : ℕ) (e : Edge) → EdgeBelow n e → LeadInside n e
 below_inside n (Atom k r) b s same = omega (arith, b, same)
 below_inside n (Elem m c r) b s (inl same) = (let l = b.0 in omega (arith, l, same))
 below_inside n (Elem m c r) b s (inr same) = (let l = b.1 in omega (arith, l, same))
+below_inside n (AnyElem c r) b s (inl same) = (let l = b.0 in omega (arith, l, same))
+below_inside n (AnyElem c r) b s (inr same) = (let l = b.1 in omega (arith, l, same))
+
+-- an edge by an element names its content and its rest
+pub leads_in : (n : ℕ) (e : Edge) (c r : ℕ) → LeadInside n e → ((m : ℕ) × (e ≡ Elem m c r)) ⊎ (e ≡ AnyElem c r) → (c < n) × (r < n)
+leads_in n e c r inside (inl (m, is)) = let l = subst (LeadInside n) is inside in (l c (inl refl), l r (inr refl))
+leads_in n e c r inside (inr is) = let l = subst (LeadInside n) is inside in (l c (inl refl), l r (inr refl))
+
+pub leads_both : (used : List Bool) (e : Edge) (c r : ℕ) → ((m : ℕ) × (e ≡ Elem m c r)) ⊎ (e ≡ AnyElem c r) → has used c ≡ true → has used r ≡ true → LeadsInto used e
+leads_both used e c r is f g = elim is [
+  | inl k ↦ subst (LeadsInto used) (sym k.1) (λ s h. elim h [ inl same ↦ ap (has used) same ∙ f | inr same ↦ ap (has used) same ∙ g ])
+  | inr k ↦ subst (LeadsInto used) (sym k) (λ s h. elim h [ inl same ↦ ap (has used) same ∙ f | inr same ↦ ap (has used) same ∙ g ])
+]
 
 -- the edges of a state lead to states
 pub edges_inside : (a : List State) (s : ℕ) (es : List Edge) → EdgesInside a → (st : State) × (slice_get a s ≡ Some st) × (st.edges ≡ es) → (i : ℕ) (e : Edge) → slice_get es i ≡ Some e → LeadInside (length a) e
@@ -216,18 +229,26 @@ TakesSame a p v = (s : ℕ) → has p s ≡ true → takes (part_of a p) s v ≡
 same-element : (a : List State) (p : List Bool) (n : ℕ) (c w : Plain) → IsClosed a p → TakesSame a p c → TakesSame a p w → TakesSame a p (elem tt n c w)
 same-element a p n c w closed in_content in_rest s h = same_value _ _ (forth, back)
   where
+    -- an element of the part, with where it leads
+    in_whole : (d r : ℕ) → HasElement (part_of a p) s n d r → HasElement a s n d r × (has p d ≡ true) × (has p r ≡ true)
+    in_whole d r (inl e) = let g = edge-part a p s (Elem n d r) h e in (inl g, closed s (Elem n d r) h g d (inl refl), closed s (Elem n d r) h g r (inr refl))
+    in_whole d r (inr e) = let g = edge-part a p s (AnyElem d r) h e in (inr g, closed s (AnyElem d r) h g d (inl refl), closed s (AnyElem d r) h g r (inr refl))
+
+    in_part : (d r : ℕ) → HasElement a s n d r → HasElement (part_of a p) s n d r × (has p d ≡ true) × (has p r ≡ true)
+    in_part d r (inl g) = (inl (part-edge a p s (Elem n d r) h g), closed s (Elem n d r) h g d (inl refl), closed s (Elem n d r) h g r (inr refl))
+    in_part d r (inr g) = (inr (part-edge a p s (AnyElem d r) h g), closed s (AnyElem d r) h g d (inl refl), closed s (AnyElem d r) h g r (inr refl))
+
     forth : takes (part_of a p) s (elem tt n c w) ≡ true → takes a s (elem tt n c w) ≡ true
     forth t =
         let g = takes_goes (part_of a p) s (elem tt n c w) (λ e. cc) t in
-        let e = edge-part a p s (Elem n g.1.0 g.0) h g.1.1 in
-        let lead = closed s (Elem n g.1.0 g.0) h e in
-        goes_takes a s (elem tt n c w) g.0 (g.1.0, e, sym (in_content g.1.0 (lead g.1.0 (inl refl))) ∙ g.1.2) (sym (in_rest g.0 (lead g.0 (inr refl))) ∙ g.2)
+        let e = in_whole g.1.0 g.0 g.1.1 in
+        goes_takes a s (elem tt n c w) g.0 (g.1.0, e.0, sym (in_content g.1.0 e.1) ∙ g.1.2) (sym (in_rest g.0 e.2) ∙ g.2)
 
     back : takes a s (elem tt n c w) ≡ true → takes (part_of a p) s (elem tt n c w) ≡ true
     back t =
         let g = takes_goes a s (elem tt n c w) (λ e. cc) t in
-        let lead = closed s (Elem n g.1.0 g.0) h g.1.1 in
-        goes_takes (part_of a p) s (elem tt n c w) g.0 (g.1.0, part-edge a p s (Elem n g.1.0 g.0) h g.1.1, in_content g.1.0 (lead g.1.0 (inl refl)) ∙ g.1.2) (in_rest g.0 (lead g.0 (inr refl)) ∙ g.2)
+        let e = in_part g.1.0 g.0 g.1.1 in
+        goes_takes (part_of a p) s (elem tt n c w) g.0 (g.1.0, e.0, in_content g.1.0 e.1 ∙ g.1.2) (in_rest g.0 e.2 ∙ g.2)
 
 same-leaf : (a : List State) (p : List Bool) (x : Value) (w : Plain) → IsClosed a p → TakesSame a p w → TakesSame a p (leaf tt x w)
 same-leaf a p x w closed in_rest s h = same_value _ _ (forth, back)
@@ -248,8 +269,21 @@ takes-part a p closed nil = takes_nil a p
 takes-part a p closed (elem _ n c w) = same-element a p n c w closed (takes-part a p closed c) (takes-part a p closed w)
 takes-part a p closed (leaf _ x w) = same-leaf a p x w closed (takes-part a p closed w)
 
+-- the edges of the part are edges
+bare_lacks : (st : State) (e : Edge) → Some bare ≡ Some st → Has st.edges e → ⊥
+bare_lacks st e at k = has-nil e (subst (λ (y : State). Has y.edges e) (sym (some_is bare st at)) k)
+
+edge-of-part : (a : List State) (p : List Bool) (s : ℕ) (e : Edge) → HasEdge (part_of a p) s e → HasEdge a s e
+edge-of-part [] p s e (st, at, k) = absurd (let same = at in cc)
+edge-of-part (x ∷ a) [] zero e (st, at, k) = absurd (bare_lacks st e at k)
+edge-of-part (x ∷ a) (true ∷ p) zero e h = h
+edge-of-part (x ∷ a) (false ∷ p) zero e (st, at, k) = absurd (bare_lacks st e at k)
+edge-of-part (x ∷ a) [] (suc s) e h = edge-of-part a [] s e h
+edge-of-part (x ∷ a) (true ∷ p) (suc s) e h = edge-of-part a p s e h
+edge-of-part (x ∷ a) (false ∷ p) (suc s) e h = edge-of-part a p s e h
+
 pub is_part : (a : List State) (p : List Bool) (left right : ℕ) → IsClosed a p → has p left ≡ true → has p right ≡ true → IsPartOf a left right (part_of a p)
-is_part a p left right closed h g = record { left = λ v. takes-part a p closed v left h; right = λ v. takes-part a p closed v right g }
+is_part a p left right closed h g = record { left = λ v. takes-part a p closed v left h; right = λ v. takes-part a p closed v right g; edges = λ r e k. edge-of-part a p r e k }
 
 pub ends-in : (a : List State) (p : List Bool) (s : ℕ) (q : List State) (b : Bool) → part_of a p ≡ q → has p s ≡ true → option_map (λ (st : State). st.ends) (slice_get a s) ≡ Some b → option_map (λ (st : State). st.ends) (slice_get q s) ≡ Some b
 ends-in a p s q b e h is = ap (λ l. option_map (λ (st : State). st.ends) (slice_get l s)) (sym e) ∙ ap (option_map (λ (st : State). st.ends)) (part-in a p s h) ∙ is

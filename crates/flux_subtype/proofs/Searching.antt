@@ -1,23 +1,28 @@
 -- The search, from its beginning to its answer.
-use Rattle.std.proofs.Common.{◌≡◌, ℕ, ◌<◌, ◌≤◌, List, [], length, Bool, true, false, Option, Some, None, slice_get, refl, sym, subst, ◌∙◌, inl, inr, arith}
+use Rattle.std.proofs.Common.{◌≡◌, ◌⊎◌, ℕ, zero, suc, ◌<◌, ◌≤◌, List, [], ◌∷◌, ◌++◌, length, Bool, true, false, Option, Some, None, slice_get, refl, sym, ap, subst, ◌∙◌, inl, inr, arith}
 use Rattle.std.proofs.lemmas.Bool.{false_from_ne_true}
+use Rattle.flux_atom.specs.declared.atom.AtomKind.{AtomKind}
 use Rattle.flux_atom.specs.declared.atom.AtomKind.TheVariants as kind
 use Rattle.flux_trees.specs.Hedge.{Plain, nil}
+use Rattle.flux_trees.specs.Each.{EachLabel}
 use Rattle.flux_schema.proofs.MarkLaws.{le_or}
 use Rattle.flux_auto.specs.declared.edge.Edge.TheVariants as edge
 use Rattle.flux_auto.specs.Takes.{State, has, takes}
 use Rattle.flux_subtype.specs.declared.index.Move.{Move}
 use Rattle.flux_subtype.specs.declared.index.Index.{Index}
-use Rattle.flux_subtype.specs.declared.kept.Recipe.TheVariants.{Nothing}
+use Rattle.flux_subtype.specs.declared.index.Group.{Group}
+use Rattle.flux_subtype.specs.declared.index.Link.{Link}
+use Rattle.flux_subtype.specs.declared.kept.Recipe.{Recipe}
+use Rattle.flux_subtype.specs.declared.kept.Recipe.TheVariants.{Nothing, Leaf, Elem}
 use Rattle.flux_subtype.specs.declared.kept.Kept.{Kept}
 use Rattle.flux_subtype.specs.declared.trees.Head.TheVariants.{Atom}
 use Rattle.flux_subtype.specs.declared.trees.Tree.{Tree}
-use Rattle.flux_subtype.specs.Going.{Has, IsProfile}
-use Rattle.flux_subtype.specs.Index.{AreWide, Indexes, ByAtom}
-use Rattle.flux_subtype.specs.Kept.{forest_at, AreKept, Grows, Keeps}
+use Rattle.flux_subtype.specs.Going.{Has, IsEdgeLabel, IsProfile}
+use Rattle.flux_subtype.specs.Index.{moves_of, AreWide, Indexes, IndexesElements, ByAtom}
+use Rattle.flux_subtype.specs.Kept.{forest_in, made, forests_after, forest_at, IsRecipeLabel, IsKeptLabel, AreKept, Grows, Keeps}
 use Rattle.flux_subtype.specs.Part.{IsPartOf}
-use Rattle.flux_subtype.specs.Search.{IsFound, IsAnswer, MovesBy, AreTrees, AddsTree, IsDone, IsAgainst}
-use Rattle.flux_subtype.proofs.Items.{has-nil}
+use Rattle.flux_subtype.specs.Search.{IsFound, IsAnswer, IsHeadLabel, IsUsed, LabelsGrow, MovesBy, AreTrees, AddsTree, IsDone, IsAgainst}
+use Rattle.flux_subtype.proofs.Items.{get-push, has-nil}
 use Rattle.flux_subtype.proofs.KeptLaws.{grows-set_at, keeps_more}
 use Rattle.flux_subtype.proofs.Turning.{stands-grows}
 use Rattle.flux_subtype.proofs.CoverLaws.{all_covered, covered_right}
@@ -30,17 +35,18 @@ none_kept a = record {
   apart = λ i j l h. absurd (omega (arith, h));
 }
 
-pub begun : (a : List State) (index : Index) (k0 ks : List Kept) (t0 t1 t2 : List Tree) (bools texts : List Move) (p : List Bool) → Indexes a index → bools ≡ index.bools.items → texts ≡ index.texts.items
-    → k0 ≡ [] → t0 ≡ [] → AddsTree t0 t1 (Atom kind.Bool) bools → AddsTree t1 t2 (Atom kind.Text) texts → IsProfile a p nil → length p ≡ length a → Keeps k0 p Nothing ks → IsDone a ks t2 0
-begun a index k0 ks t0 t1 t2 bools texts p is eb et ek e0 one two nothing long keeps =
+pub begun : (a : List State) (index : Index) (k0 ks : List Kept) (t0 t1 t2 t3 : List Tree) (bools texts numbers : List Move) (p : List Bool) → Indexes a index → bools ≡ index.bools.items → texts ≡ index.texts.items → numbers ≡ index.numbers.items
+    → k0 ≡ [] → t0 ≡ [] → AddsTree t0 t1 (Atom kind.Bool) bools → AddsTree t1 t2 (Atom kind.Text) texts → AddsTree t2 t3 (Atom kind.Int) numbers → IsProfile a p nil → length p ≡ length a → Keeps k0 p Nothing ks → IsDone a ks t3 0
+begun a index k0 ks t0 t1 t2 t3 bools texts numbers p is eb et en ek e0 one two three nothing long keeps =
     let more = keeps_more a [] ks p Nothing (none_kept a) tt nothing long (subst (λ k. Keeps k p Nothing ks) ek keeps) in
     record {
       kept = more.kept;
       trees = trees;
       first = (more.there.0, more.there.1, subst (λ q. IsProfile a q nil) (sym more.there.2) nothing);
       kinds = elim [
-        | kind.Bool ↦ (bools, by_bool, stands-grows t1 t2 bools two.grows one.stands)
-        | kind.Text ↦ (texts, by_text, two.stands)
+        | kind.Bool ↦ (bools, by_bool, stands-grows t2 t3 bools three.grows (stands-grows t1 t2 bools two.grows one.stands))
+        | kind.Text ↦ (texts, by_text, stands-grows t2 t3 texts three.grows two.stands)
+        | kind.Int ↦ (numbers, by_number, three.stands)
       ];
       labels = λ i l. absurd (omega (arith, l));
       answered = λ t i h l. absurd (omega (arith, l));
@@ -52,14 +58,47 @@ begun a index k0 ks t0 t1 t2 bools texts p is eb et ek e0 one two nothing long k
     by_text : ByAtom a kind.Text texts
     by_text = subst (ByAtom a kind.Text) (sym et) (λ s r. is.listed s (edge.Atom kind.Text r))
 
-    trees : AreTrees a ks t2
-    trees t h = elim (two.new t h) [
-      | inr e ↦ (subst (AreWide (length a)) (sym e.1) (subst (AreWide (length a)) (sym et) (is.wide.kinds kind.Text)), subst (λ head. MovesBy a ks head t.moves.items) (sym e.0) (subst (ByAtom a kind.Text) (sym e.1) by_text))
-      | inl old ↦ elim (one.new t old) [
-        | inr e ↦ (subst (AreWide (length a)) (sym e.1) (subst (AreWide (length a)) (sym eb) (is.wide.kinds kind.Bool)), subst (λ head. MovesBy a ks head t.moves.items) (sym e.0) (subst (ByAtom a kind.Bool) (sym e.1) by_bool))
-        | inl none ↦ absurd (has-nil t (subst (λ l. Has l t) e0 none))
+    by_number : ByAtom a kind.Int numbers
+    by_number = subst (ByAtom a kind.Int) (sym en) (λ s r. is.listed s (edge.Atom kind.Int r))
+
+    -- a tree that is an atom of a kind
+    atom : (k : AtomKind) (moves : List Move) → moves ≡ moves_of index k → ByAtom a k moves → (t : Tree) → (t.head ≡ Atom k) × (t.moves.items ≡ moves) → AreWide (length a) t.moves.items × MovesBy a ks t.head t.moves.items
+    atom k moves same by t e =
+        (subst (AreWide (length a)) (sym e.1) (subst (AreWide (length a)) (sym same) (is.wide.kinds k)), subst (λ head. MovesBy a ks head t.moves.items) (sym e.0) (subst (ByAtom a k) (sym e.1) by))
+
+    trees : AreTrees a ks t3
+    trees t h = elim (three.new t h) [
+      | inr e ↦ atom kind.Int numbers en by_number t e
+      | inl older ↦ elim (two.new t older) [
+        | inr e ↦ atom kind.Text texts et by_text t e
+        | inl old ↦ elim (one.new t old) [
+          | inr e ↦ atom kind.Bool bools eb by_bool t e
+          | inl none ↦ absurd (has-nil t (subst (λ l. Has l t) e0 none))
+        ]
       ]
     ]
+
+-- the empty forest and atoms have no labels
+pub none_used : (k0 ks : List Kept) (t0 t1 t2 t3 : List Tree) (bools texts numbers : List Move) (p : List Bool) → k0 ≡ [] → t0 ≡ [] → AddsTree t0 t1 (Atom kind.Bool) bools → AddsTree t1 t2 (Atom kind.Text) texts → AddsTree t2 t3 (Atom kind.Int) numbers → Keeps k0 p Nothing ks
+    → (n : ℕ) → IsUsed ks t3 n → ⊥
+none_used k0 ks t0 t1 t2 t3 bools texts numbers p ek e0 one two three keeps n (inl (i, k, at, l)) = kept keeps
+  where
+    kept : Keeps k0 p Nothing ks → ⊥
+    kept (inl (e, there)) = (let none : slice_get {X = Kept} [] i ≡ Some k = ap (λ x. slice_get x i) (sym (e ∙ ek)) ∙ at in cc)
+    kept (inr (fresh, (x, set, by, e))) = elim (get-push k0 x i k (ap (λ y. slice_get y i) (sym e) ∙ at)) [
+      | inl o ↦ (let none : slice_get {X = Kept} [] i ≡ Some k = ap (λ y. slice_get y i) (sym ek) ∙ o.1 in cc)
+      | inr q ↦ subst (λ f. IsRecipeLabel f n) by (subst (λ (z : Kept). IsRecipeLabel z.from n) (sym q.1) l)
+    ]
+none_used k0 ks t0 t1 t2 t3 bools texts numbers p ek e0 one two three keeps n (inr (t, h, l)) = elim (three.new t h) [
+  | inr e ↦ subst (λ head. IsHeadLabel head n) e.0 l
+  | inl older ↦ elim (two.new t older) [
+    | inr e ↦ subst (λ head. IsHeadLabel head n) e.0 l
+    | inl old ↦ elim (one.new t old) [
+      | inr e ↦ subst (λ head. IsHeadLabel head n) e.0 l
+      | inl none ↦ has-nil t (subst (λ x. Has x t) e0 none)
+    ]
+  ]
+]
 
 -- the profiles that were looked at, and those that are looked at now
 pub next_seen : (ks js ls : List Kept) (left right seen n : ℕ) → js ≡ ks → n ≡ length ks → Grows ks ls → ((i : ℕ) → i < seen → IsAgainst ks left right i → ⊥)
@@ -77,12 +116,37 @@ pub answered_none : (a : List State) (ks : List Kept) (ts : List Tree) (left rig
 answered_none a ks ts left right done seen so_far le behind none v =
     covered_right a ks left right (λ i l. none i (omega (arith, l, le, behind))) v (all_covered a ks ts done le so_far v)
 
+-- the labels of the kept forests are those of their recipes
+forests_labelled : (P : ℕ → Type 0) (vs : List Plain) (ks : List Kept) → ((i : ℕ) → EachLabel P (forest_in vs i)) → ((n : ℕ) → IsKeptLabel ks n → P n) → (i : ℕ) → EachLabel P (forest_in (forests_after vs ks) i)
+forests_labelled P vs [] old f = old
+forests_labelled P vs (k ∷ ks) old f = forests_labelled P (vs ++ made vs k.from ∷ []) ks (more vs (made vs k.from) old (made_labelled k.from (λ n l. f n (0, k, refl, l)))) (λ n h. f n (suc h.0, h.1, h.2, h.3))
+  where
+    made_labelled : (r : Recipe) → ((n : ℕ) → IsRecipeLabel r n → P n) → EachLabel P (made vs r)
+    made_labelled Nothing g = tt
+    made_labelled (Leaf j r) g = old r
+    made_labelled (Elem n c r) g = (g n refl, old c, old r)
+
+    more : (gs : List Plain) (h : Plain) → ((i : ℕ) → EachLabel P (forest_in gs i)) → EachLabel P h → (i : ℕ) → EachLabel P (forest_in (gs ++ h ∷ []) i)
+    more [] h g each zero = each
+    more [] h g each (suc i) = tt
+    more (x ∷ gs) h g each zero = g 0
+    more (x ∷ gs) h g each (suc i) = more gs h (λ j. g (suc j)) each i
+
 -- what is found in the part answers for the whole
-pub found_answers : (a part : List State) (ks : List Kept) (left right : ℕ) (found : Option ℕ) → IsPartOf a left right part → IsFound part ks left right found → IsAnswer a ks left right found
-found_answers a part ks left right None same f = λ v t. sym (same.right v) ∙ f v (same.left v ∙ t)
-found_answers a part ks left right (Some i) same (kept, inside, (on, off)) = (
+pub found_answers : (a part : List State) (groups : List Group) (any : List Link) (other : ℕ) (k1 ks : List Kept) (t1 ts : List Tree) (left right : ℕ) (found : Option ℕ) → IsPartOf a left right part → IndexesElements part groups any → ((n : ℕ) → IsUsed k1 t1 n → ⊥)
+    → LabelsGrow groups other k1 t1 ks ts → IsFound part ks left right found → IsAnswer a other ks left right found
+found_answers a part groups any other k1 ks t1 ts left right None same elements none labels f = λ v t. sym (same.right v) ∙ f v (same.left v ∙ t)
+found_answers a part groups any other k1 ks t1 ts left right (Some i) same elements none labels (kept, inside, (on, off)) = (
   kept.earlier,
   inside,
   sym (same.left (forest_at ks i)) ∙ (kept.profiles i inside left).0 on,
   sym (same.right (forest_at ks i)) ∙ false_from_ne_true _ (λ t. (let x : true ≡ false = sym ((kept.profiles i inside right).1 t) ∙ off in cc)),
+  forests_labelled (λ n. (n ≡ other) ⊎ IsEdgeLabel a n) [] ks (λ j. tt) shown i,
 )
+  where
+    shown : (n : ℕ) → IsKeptLabel ks n → (n ≡ other) ⊎ IsEdgeLabel a n
+    shown n h = elim (labels n (inl h)) [
+      | inl used ↦ absurd (none n used)
+      | inr (inl is) ↦ inl is
+      | inr (inr g) ↦ inr (let e = elements.labels n g in (e.0, e.1, e.2, same.edges e.0 (edge.Elem n e.1 e.2) e.3))
+    ]

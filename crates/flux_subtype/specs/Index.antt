@@ -3,13 +3,13 @@ use Rattle.std.specs.Prelude.{◌≡◌, ◌⊎◌, ◌↔◌, ℕ, ◌<◌, Lis
 use Rattle.flux_atom.specs.declared.atom.AtomKind.{AtomKind}
 use Rattle.flux_atom.specs.declared.atom.AtomKind.TheVariants as kind
 use Rattle.flux_auto.specs.declared.edge.Edge.{Edge}
-use Rattle.flux_auto.specs.declared.edge.Edge.TheVariants.{Atom, Elem}
+use Rattle.flux_auto.specs.declared.edge.Edge.TheVariants.{Atom, Elem, AnyElem}
 use Rattle.flux_auto.specs.Takes.{State, has}
 use Rattle.flux_subtype.specs.declared.index.Move.{Move}
 use Rattle.flux_subtype.specs.declared.index.Link.{Link}
 use Rattle.flux_subtype.specs.declared.index.Group.{Group}
 use Rattle.flux_subtype.specs.declared.index.Index.{Index}
-use Rattle.flux_subtype.specs.Going.{Has, HasEdge}
+use Rattle.flux_subtype.specs.Going.{Has, HasEdge, HasElement, IsEdgeLabel}
 
 -- one of the moves goes from s to r
 abbrev pub Moves : List Move → ℕ → ℕ → Type 0
@@ -28,11 +28,17 @@ HasLink groups s n c r =
 abbrev pub moves_of : Index → AtomKind → List Move
 moves_of index kind.Bool = index.bools.items
 moves_of index kind.Text = index.texts.items
+moves_of index kind.Int = index.numbers.items
 
 -- the edge of the state is there
 abbrev pub Listed : Index → ℕ → Edge → Type 0
 Listed index s (Atom k r) = Moves (moves_of index k) s r
 Listed index s (Elem n c r) = HasLink index.groups.items s n c r
+Listed index s (AnyElem c r) = Links index.any.items s c r
+
+-- some group has the label
+abbrev pub HasGroup : List Group → ℕ → Type 0
+HasGroup groups n = (g : Group) × Has groups g × (g.label ≡ n)
 
 -- different groups have different labels
 abbrev pub Differ : List Group → Type 0
@@ -51,6 +57,7 @@ AreWideGroups n groups = (g : Group) → Has groups g → AreWideLinks n g.links
 
 pub record IsWide (n : ℕ) (index : Index) : Type 0 where
   pub kinds : (k : AtomKind) → AreWide n (moves_of index k)
+  pub any : AreWideLinks n index.any.items
   pub groups : AreWideGroups n index.groups.items
 
 -- one move more
@@ -75,12 +82,15 @@ pub record FindsGroup (old new : List Group) (n place : ℕ) : Type 0 where
   pub differ : Differ old → Differ new
   pub wide : (k : ℕ) → AreWideGroups k old → AreWideGroups k new
   pub same : (t m d q : ℕ) → HasLink new t m d q ↔ HasLink old t m d q
+  pub labels : (m : ℕ) → HasGroup new m → HasGroup old m ⊎ (m ≡ n)
 
 -- one edge more
 pub record AddsEdge (n : ℕ) (old new : Index) (s : ℕ) (e : Edge) : Type 0 where
   pub differ : Differ old.groups.items → Differ new.groups.items
   pub wide : IsWide n new
   pub listed : (t : ℕ) (f : Edge) → Listed new t f ↔ (Listed old t f ⊎ ((t ≡ s) × (f ≡ e)))
+  pub labels : (m : ℕ) → HasGroup new.groups.items m
+      → HasGroup old.groups.items m ⊎ ((c : ℕ) × (r : ℕ) × (e ≡ Elem m c r))
 
 -- the first k edges of a list more
 pub record AddsEdges (n : ℕ) (old new : Index) (s : ℕ) (es : List Edge) (k : ℕ) : Type 0 where
@@ -88,34 +98,43 @@ pub record AddsEdges (n : ℕ) (old new : Index) (s : ℕ) (es : List Edge) (k :
   pub wide : IsWide n new
   pub listed : (t : ℕ) (f : Edge) → Listed new t f
       ↔ (Listed old t f ⊎ ((t ≡ s) × (i : ℕ) × (i < k) × (slice_get es i ≡ Some f)))
+  pub labels : (m : ℕ) → HasGroup new.groups.items m → HasGroup old.groups.items m
+      ⊎ ((c : ℕ) × (r : ℕ) × Has es (Elem m c r))
 
 -- just the edges of the states below k
 pub record IndexesBelow (a : List State) (k : ℕ) (index : Index) : Type 0 where
   pub differ : Differ index.groups.items
   pub wide : IsWide (length a) index
   pub listed : (s : ℕ) (e : Edge) → Listed index s e ↔ ((s < k) × HasEdge a s e)
+  pub labels : (m : ℕ) → HasGroup index.groups.items m → IsEdgeLabel a m
 
 -- the edges of the automaton
 pub record Indexes (a : List State) (index : Index) : Type 0 where
   pub differ : Differ index.groups.items
   pub wide : IsWide (length a) index
   pub listed : (s : ℕ) (e : Edge) → Listed index s e ↔ HasEdge a s e
+  pub labels : (m : ℕ) → HasGroup index.groups.items m → IsEdgeLabel a m
 
--- the links of the automaton
-pub record IndexesGroups (a : List State) (groups : List Group) : Type 0 where
+-- the links of the automaton, by elements of each label alone and of any label
+pub record IndexesElements (a : List State) (groups : List Group) (any : List Link) :
+    Type 0 where
   pub differ : Differ groups
   pub wide : AreWideGroups (length a) groups
+  pub wide_any : AreWideLinks (length a) any
   pub links : (s n c r : ℕ) → HasLink groups s n c r ↔ HasEdge a s (Elem n c r)
+  pub any_links : (s c r : ℕ) → Links any s c r ↔ HasEdge a s (AnyElem c r)
+  pub labels : (m : ℕ) → HasGroup groups m → IsEdgeLabel a m
 
 -- the moves along links whose content's state is one of the profile's
 abbrev pub Follows : List Link → List Bool → List Move → Type 0
 Follows links p moves =
     (s r : ℕ) → Moves moves s r ↔ ((c : ℕ) × Links links s c r × (has p c ≡ true))
 
--- the moves by links of the label whose content's state is one of the profile's
-abbrev pub ByLinks : List Group → ℕ → List Bool → List Move → Type 0
-ByLinks groups n p moves =
-    (s r : ℕ) → Moves moves s r ↔ ((c : ℕ) × HasLink groups s n c r × (has p c ≡ true))
+-- the moves by links of the label, and by those of any, whose content's state is one of the
+-- profile's
+abbrev pub ByLinks : List Group → List Link → ℕ → List Bool → List Move → Type 0
+ByLinks groups any n p moves = (s r : ℕ) → Moves moves s r
+    ↔ ((c : ℕ) × (HasLink groups s n c r ⊎ Links any s c r) × (has p c ≡ true))
 
 -- the moves by an atom of a kind
 abbrev pub ByAtom : List State → AtomKind → List Move → Type 0
@@ -124,4 +143,4 @@ ByAtom a k moves = (s r : ℕ) → Moves moves s r ↔ HasEdge a s (Atom k r)
 -- the moves by an element of the label whose content has the profile
 abbrev pub ByElement : List State → ℕ → List Bool → List Move → Type 0
 ByElement a n p moves =
-    (s r : ℕ) → Moves moves s r ↔ ((c : ℕ) × HasEdge a s (Elem n c r) × (has p c ≡ true))
+    (s r : ℕ) → Moves moves s r ↔ ((c : ℕ) × HasElement a s n c r × (has p c ≡ true))

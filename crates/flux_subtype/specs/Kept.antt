@@ -38,6 +38,16 @@ set_of (Some k) = k.set
 abbrev pub set_at : List Kept → ℕ → List Bool
 set_at ks i = set_of (slice_get ks i)
 
+-- the recipe is that of an element with the label
+abbrev pub IsRecipeLabel : Recipe → ℕ → Type 0
+IsRecipeLabel Nothing n = ⊥
+IsRecipeLabel (Leaf k r) n = ⊥
+IsRecipeLabel (Elem m c r) n = n ≡ m
+
+-- so is one of the recipes
+abbrev pub IsKeptLabel : List Kept → ℕ → Type 0
+IsKeptLabel ks n = (i : ℕ) × (k : Kept) × (slice_get ks i ≡ Some k) × IsRecipeLabel k.from n
+
 -- the recipe names profiles before i
 abbrev pub NamesEarlier : ℕ → Recipe → Type 0
 NamesEarlier i Nothing = Unit {0}

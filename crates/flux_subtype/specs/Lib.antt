@@ -5,3 +5,4 @@ pub mod Index
 pub mod Kept
 pub mod Search
 pub mod Witness
+pub mod Setting

@@ -2,7 +2,7 @@
 use Rattle.std.specs.Prelude.{◌≡◌, ◌⊎◌, ℕ, suc, ◌+◌, ◌*◌, ◌<◌, ◌≤◌, List, [], ◌∷◌, ◌++◌, Bool, true, false, Some, length, slice_get}
 use Rattle.flux_trees.specs.Hedge.{Plain}
 use Rattle.flux_auto.specs.declared.edge.Edge.{Edge}
-use Rattle.flux_auto.specs.declared.edge.Edge.TheVariants.{Atom, Elem}
+use Rattle.flux_auto.specs.declared.edge.Edge.TheVariants.{Atom, Elem, AnyElem}
 use Rattle.flux_auto.specs.Takes.{State, has, takes}
 use Rattle.flux_subtype.specs.Going.{Has, HasEdge}
 
@@ -10,6 +10,7 @@ use Rattle.flux_subtype.specs.Going.{Has, HasEdge}
 abbrev pub Leads : Edge → ℕ → Type 0
 Leads (Atom k r) s = s ≡ r
 Leads (Elem n c r) s = (s ≡ c) ⊎ (s ≡ r)
+Leads (AnyElem c r) s = (s ≡ c) ⊎ (s ≡ r)
 
 -- the states that the edge names are below n
 abbrev pub LeadInside : ℕ → Edge → Type 0
@@ -54,7 +55,8 @@ part_of (s ∷ a) [] = bare ∷ part_of a []
 part_of (s ∷ a) (true ∷ p) = s ∷ part_of a p
 part_of (s ∷ a) (false ∷ p) = bare ∷ part_of a p
 
--- two states take in the part what they take in the whole
+-- two states take in the part what they take in the whole, and its edges are those of the whole
 pub record IsPartOf (a : List State) (s t : ℕ) (part : List State) : Type 0 where
   pub left : (v : Plain) → takes part s v ≡ takes a s v
   pub right : (v : Plain) → takes part t v ≡ takes a t v
+  pub edges : (r : ℕ) (e : Edge) → HasEdge part r e → HasEdge a r e

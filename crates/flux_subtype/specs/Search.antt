@@ -2,18 +2,20 @@
 use Rattle.std.specs.Prelude.{◌≡◌, ◌⊎◌, ◌↔◌, ℕ, ◌<◌, ◌≤◌, ◌+◌, List, [], ◌++◌, Bool, true, false, Option, Some, None, length, slice_get}
 use Rattle.flux_atom.specs.declared.atom.AtomKind.{AtomKind}
 use Rattle.flux_trees.specs.Hedge.{Plain, nil}
+use Rattle.flux_trees.specs.Each.{EachLabel}
 use Rattle.flux_auto.specs.Takes.{State, has, takes}
 use Rattle.flux_subtype.specs.declared.index.Move.{Move}
 use Rattle.flux_subtype.specs.declared.index.Group.{Group}
+use Rattle.flux_subtype.specs.declared.index.Link.{Link}
 use Rattle.flux_subtype.specs.declared.kept.Recipe.{Recipe}
 use Rattle.flux_subtype.specs.declared.kept.Recipe.TheVariants as recipe
 use Rattle.flux_subtype.specs.declared.kept.Kept.{Kept}
 use Rattle.flux_subtype.specs.declared.trees.Head.{Head}
 use Rattle.flux_subtype.specs.declared.trees.Head.TheVariants.{Atom, Elem}
 use Rattle.flux_subtype.specs.declared.trees.Tree.{Tree}
-use Rattle.flux_subtype.specs.Going.{Has, IsProfile, IsDead}
-use Rattle.flux_subtype.specs.Index.{Moves, AreWide, AreWideGroups, ByAtom, ByElement, ByLinks}
-use Rattle.flux_subtype.specs.Kept.{forest_at, set_at, AreKept, Grows}
+use Rattle.flux_subtype.specs.Going.{Has, IsEdgeLabel, IsProfile, IsDead}
+use Rattle.flux_subtype.specs.Index.{Moves, HasGroup, AreWide, AreWideLinks, AreWideGroups, ByAtom, ByElement, ByLinks}
+use Rattle.flux_subtype.specs.Kept.{forest_at, set_at, IsKeptLabel, AreKept, Grows}
 use Rattle.flux_subtype.specs.Witness.{NameEarlier}
 
 -- the profile of a tree and a rest with the profile q is p, where the tree makes the moves
@@ -47,18 +49,32 @@ pub record AddsTree (ts us : List Tree) (head : Head) (moves : List Move) : Type
   pub stands : Stands us moves
   pub new : (t : Tree) → Has us t → Has ts t ⊎ ((t.head ≡ head) × (t.moves.items ≡ moves))
 
--- the tree is an element whose content has the profile p, which is kept at c; its moves are as wide
--- as those of the groups
-abbrev pub IsElementOf : List Group → List Bool → ℕ → Tree → Type 0
-IsElementOf groups p c t = (n : ℕ) × (t.head ≡ Elem n c) × ByLinks groups n p t.moves.items
-    × ((w : ℕ) → AreWideGroups w groups → AreWide w t.moves.items)
+-- the head is that of an element with the label
+abbrev pub IsHeadLabel : Head → ℕ → Type 0
+IsHeadLabel (Atom k) n = ⊥
+IsHeadLabel (Elem m c) n = n ≡ m
+
+-- so is one of the trees'
+abbrev pub IsTreeLabel : List Tree → ℕ → Type 0
+IsTreeLabel ts n = (t : Tree) × Has ts t × IsHeadLabel t.head n
+
+-- a label that is shown: `other`, or that of a group
+abbrev pub IsShown : List Group → ℕ → ℕ → Type 0
+IsShown groups other n = (n ≡ other) ⊎ HasGroup groups n
+
+-- the tree is an element with such a label, whose content has the profile p, which is kept at c; its
+-- moves are as wide as those of the links
+abbrev pub IsElementOf : List Group → List Link → ℕ → List Bool → ℕ → Tree → Type 0
+IsElementOf groups any other p c t =
+    (n : ℕ) × IsShown groups other n × (t.head ≡ Elem n c) × ByLinks groups any n p t.moves.items
+    × ((w : ℕ) → AreWideGroups w groups → AreWideLinks w any → AreWide w t.moves.items)
 
 -- the elements of each label are kept, if they make new moves
-pub record AddsElements (groups : List Group) (p : List Bool) (c : ℕ)
-    (ts us : List Tree) : Type 0 where
+pub record AddsElements (groups : List Group) (any : List Link) (other : ℕ) (p : List Bool)
+    (c : ℕ) (ts us : List Tree) : Type 0 where
   pub grows : TreesGrow ts us
-  pub stand : (n : ℕ) → (moves : List Move) × ByLinks groups n p moves × Stands us moves
-  pub new : (t : Tree) → Has us t → Has ts t ⊎ IsElementOf groups p c t
+  pub stand : (n : ℕ) → (moves : List Move) × ByLinks groups any n p moves × Stands us moves
+  pub new : (t : Tree) → Has us t → Has ts t ⊎ IsElementOf groups any other p c t
 
 -- elements of each label with the content p have trees
 abbrev pub LabelsDone : List State → List Tree → List Bool → Type 0
@@ -84,23 +100,27 @@ recipe_of (Atom k) r = recipe.Leaf k r
 recipe_of (Elem n c) r = recipe.Elem n c r
 
 -- the tree is put before the profile q
-pub record Puts (a : List State) (ks ls : List Kept) (moves : List Move)
+pub record Puts (a : List State) (ks ls : List Kept) (head : Head) (moves : List Move)
     (q : List Bool) : Type 0 where
   pub kept : AreKept a ls
   pub grows : Grows ks ls
   pub answered : Answered ls moves q
+  pub labels : (n : ℕ) → IsKeptLabel ls n → IsKeptLabel ks n ⊎ IsHeadLabel head n
 
 -- the tree is put before the profiles from i on that are below j
-pub record Fills (a : List State) (ks ls : List Kept) (moves : List Move) (i j : ℕ) : Type 0 where
+pub record Fills (a : List State) (ks ls : List Kept) (head : Head) (moves : List Move)
+    (i j : ℕ) : Type 0 where
   pub kept : AreKept a ls
   pub grows : Grows ks ls
   pub answered : (k : ℕ) → i ≤ k → k < j → Answered ls moves (set_at ls k)
+  pub labels : (n : ℕ) → IsKeptLabel ls n → IsKeptLabel ks n ⊎ IsHeadLabel head n
 
 -- the first m trees are put before the profiles up to n
 pub record FillsAll (a : List State) (ks ls : List Kept) (ts : List Tree) (n m : ℕ) : Type 0 where
   pub kept : AreKept a ls
   pub grows : Grows ks ls
   pub answered : AnsweredBelow ls ts m (n + 1)
+  pub labels : (b : ℕ) → IsKeptLabel ls b → IsKeptLabel ks b ⊎ IsTreeLabel ts b
 
 -- trees of the profiles below n, and what stands before them
 pub record IsDone (a : List State) (ks : List Kept) (ts : List Tree) (n : ℕ) : Type 0 where
@@ -111,10 +131,21 @@ pub record IsDone (a : List State) (ks : List Kept) (ts : List Tree) (n : ℕ) :
   pub labels : (i : ℕ) → i < n → LabelsDone a ts (set_at ks i)
   pub answered : AllAnswered ks ts n
 
+-- a kept profile or a tree has the label
+abbrev pub IsUsed : List Kept → List Tree → ℕ → Type 0
+IsUsed ks ts n = IsKeptLabel ks n ⊎ IsTreeLabel ts n
+
+-- each label that is used now was used before, or is one that is shown
+abbrev pub LabelsGrow : List Group → ℕ → List Kept → List Tree → List Kept → List Tree → Type 0
+LabelsGrow groups other ks ts ls us =
+    (n : ℕ) → IsUsed ls us n → IsUsed ks ts n ⊎ IsShown groups other n
+
 -- the profile at n is taken up
-pub record Turned (a : List State) (ks ls : List Kept) (us : List Tree) (n : ℕ) : Type 0 where
+pub record Turned (a : List State) (groups : List Group) (other : ℕ) (ks ls : List Kept)
+    (ts us : List Tree) (n : ℕ) : Type 0 where
   pub grows : Grows ks ls
   pub done : IsDone a ls us (n + 1)
+  pub labels : LabelsGrow groups other ks ts ls us
 
 -- the profile of the forest is kept, or no state takes it
 abbrev pub IsCovered : List State → List Kept → Plain → Type 0
@@ -129,8 +160,10 @@ abbrev pub IsFound : List State → List Kept → ℕ → ℕ → Option ℕ →
 IsFound a ks left right None = (v : Plain) → takes a left v ≡ true → takes a right v ≡ true
 IsFound a ks left right (Some i) = AreKept a ks × (i < length ks) × IsAgainst ks left right i
 
--- none: the right state takes all that the left one takes; else a forest that it doesn't take
-abbrev pub IsAnswer : List State → List Kept → ℕ → ℕ → Option ℕ → Type 0
-IsAnswer a ks left right None = (v : Plain) → takes a left v ≡ true → takes a right v ≡ true
-IsAnswer a ks left right (Some i) = NameEarlier ks × (i < length ks)
+-- none: the right state takes all that the left one takes; else a forest that it doesn't take, each
+-- label of which is `other` or that of an edge
+abbrev pub IsAnswer : List State → ℕ → List Kept → ℕ → ℕ → Option ℕ → Type 0
+IsAnswer a other ks left right None = (v : Plain) → takes a left v ≡ true → takes a right v ≡ true
+IsAnswer a other ks left right (Some i) = NameEarlier ks × (i < length ks)
     × (takes a left (forest_at ks i) ≡ true) × (takes a right (forest_at ks i) ≡ false)
+    × EachLabel (λ n. (n ≡ other) ⊎ IsEdgeLabel a n) (forest_at ks i)

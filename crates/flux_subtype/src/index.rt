@@ -34,11 +34,14 @@ pub(crate) struct Group {
     pub(crate) links: Vec<Link>,
 }
 
-// The edges of an automaton: the moves by atoms of each kind, and the groups of links.
+// The edges of an automaton: the moves by atoms of each kind, the links by elements of any label, and
+// the groups of links.
 #[derive(Drop)]
 pub(crate) struct Index {
     pub(crate) bools: Vec<Move>,
     pub(crate) texts: Vec<Move>,
+    pub(crate) numbers: Vec<Move>,
+    pub(crate) any: Vec<Link>,
     pub(crate) groups: Vec<Group>,
 }
 
@@ -159,6 +162,7 @@ fn add_atom(
     match kind {
         AtomKind::Bool => add_move(alloc, &mut index.bools, states, from, to)?,
         AtomKind::Text => add_move(alloc, &mut index.texts, states, from, to)?,
+        AtomKind::Int => add_move(alloc, &mut index.numbers, states, from, to)?,
     }
     Ok(())
 }
@@ -187,6 +191,9 @@ fn add_edge(
                 *content,
                 *to,
             )?
+        }
+        Edge::AnyElem(content, to) => {
+            add_link(alloc, &mut index.any, states, state, *content, *to)?
         }
     }
     Ok(())
@@ -217,6 +224,8 @@ pub(crate) fn index_of(alloc: Global, part: &Part<'_>) -> Result<Index, AllocErr
     let mut index = Index {
         bools: Vec::new(alloc),
         texts: Vec::new(alloc),
+        numbers: Vec::new(alloc),
+        any: Vec::new(alloc),
         groups: Vec::new(alloc),
     };
     let states = part.states() as usize;
@@ -226,7 +235,11 @@ pub(crate) fn index_of(alloc: Global, part: &Part<'_>) -> Result<Index, AllocErr
     Ok(index)
 }
 
-fn add_copies(alloc: Global, moves: &[Move], to: &mut Vec<Move>) -> Result<(), AllocError>
+pub(crate) fn add_copies(
+    alloc: Global,
+    moves: &[Move],
+    to: &mut Vec<Move>,
+) -> Result<(), AllocError>
     ensures { IfOk result (λ _. to.new.items ≡ to.old.items ++ moves.now) }
 {
     for index in 0..moves.len() {

@@ -32,7 +32,7 @@ fn reach_along(edge: &Edge, used: &mut Set, pending: &mut Vec<u64>) -> Result<()
 {
     match edge {
         Edge::Atom(_, rest) => reach(*rest, used, pending)?,
-        Edge::Elem(_, content, rest) => {
+        Edge::Elem(_, content, rest) | Edge::AnyElem(content, rest) => {
             reach(*content, used, pending)?;
             reach(*rest, used, pending)?
         }

@@ -1,8 +1,10 @@
 // Inclusion of types by profiles of forests.
 ghost use Rattle.std.specs.Prelude.{◌≡◌};
+ghost use Rattle.flux_schema.specs.Labels.{BodiesLack};
 
 use crate::search::search;
 use crate::witness::witness;
+use flux_atom::Name;
 use flux_auto::Auto;
 use flux_types::{Decider, Defs, Ty, Verdict};
 use std::alloc::{AllocError, Global};
@@ -15,47 +17,62 @@ use std::marker::Model;
 #[derive(Drop)]
 pub struct Profiles<'d> {
     defs: &'d Defs,
+    other: Name,
 }
 
 impl<'d> Model for Profiles<'d> {
-    ghost use Rattle.flux_schema.specs.Definitions.{Definitions};
-    ghost use Rattle.flux_schema.specs.DefinitionCodes.{definitions_code};
+    ghost use Rattle.flux_schema.specs.Labels.{BodiesLack};
+    ghost use Rattle.flux_subtype.specs.Setting.{Setting, setting_code};
 
-    ghost Value = { Definitions };
+    ghost Value = { Setting };
 
-    ghost coded = { definitions_code };
+    ghost coded = { setting_code };
 
-    ghost view = { λ p. p.defs.now };
+    ghost view = { λ p. record { definitions = p.defs.now; other = p.other } };
+
+    ghost invariant = { λ p. BodiesLack p.other p.defs.now };
 }
 
 impl<'d> Profiles<'d> {
-    /// A decider under the definitions.
-    pub fn new(defs: &'d Defs) -> Profiles<'d>
-        ensures definitions { result ≡ defs.now }
+    /// A decider under the definitions. The label `other`, which stands in none of them and in no
+    /// type that it is asked for, stands in its forests for all labels that no type names.
+    pub fn new(defs: &'d Defs, other: Name) -> Profiles<'d>
+        requires { BodiesLack other defs.now }
+        ensures definitions { result.definitions ≡ defs.now }
+        ensures other { result.other ≡ other }
     {
-        Profiles { defs }
+        Profiles { defs, other }
     }
 }
 
 impl<'d> Decider for Profiles<'d> {
     ghost use Rattle.std.specs.Prelude.{false, []};
 
-    ghost definitions = { λ p. p };
+    ghost definitions = { λ p. p.definitions };
+
+    ghost unnamed = { λ p. p.other };
 
     ghost keeps = { λ _. false };
 
     ghost known = { λ _. [] };
+
+    fn other(&self) -> Name {
+        self.other
+    }
 
     fn defs(&self) -> &Defs {
         self.defs.as_kept()
     }
 
     fn included(&mut self, alloc: Global, left: &Ty, right: &Ty) -> Result<Verdict, AllocError> {
-        let mut auto = Auto::new(alloc, self.defs)?;
+        let mut auto = Auto::new(alloc, self.defs, self.other)?;
         let left = auto.add(left)?;
         let right = auto.add(right)?;
+        // each label of its edges stands in the definitions or in one of the types
+        let _states = auto.states();
         let mut kept = Vec::new(alloc);
-        let found = search(alloc, &auto, auto.state(left), auto.state(right), &mut kept)?;
+        let (left, right) = (auto.state(left), auto.state(right));
+        let found = search(alloc, &auto, self.other, left, right, &mut kept)?;
         match found {
             None => Ok(Verdict::Yes),
             Some(place) => Ok(Verdict::No(witness(alloc, &kept, place)?)),

@@ -2,17 +2,17 @@
 ghost use Rattle.std.specs.Prelude.{◌≡◌, ◌↔◌, ◌<◌, ◌≤◌, ◌+◌, ℕ, [], length, IfOk, IfSome, IfNone, IsTrue, true, false};
 ghost use Rattle.flux_trees.specs.Hedge.{nil};
 ghost use Rattle.flux_auto.specs.Takes.{has};
-ghost use Rattle.flux_subtype.specs.Going.{IsProfile};
-ghost use Rattle.flux_subtype.specs.Index.{AreWide, IndexesGroups};
+ghost use Rattle.flux_subtype.specs.Going.{IsProfile, LacksEdge};
+ghost use Rattle.flux_subtype.specs.Index.{AreWide, IndexesElements};
 ghost use Rattle.flux_subtype.specs.Kept.{set_at, AreKept};
-ghost use Rattle.flux_subtype.specs.Search.{Fires, IsSilent, MovesBy, AreTrees, AnsweredBelow, Puts, Fills, FillsAll, IsDone, Turned, IsAgainst, IsFound, IsAnswer, recipe_of};
+ghost use Rattle.flux_subtype.specs.Search.{Fires, IsSilent, MovesBy, AreTrees, AnsweredBelow, Puts, Fills, FillsAll, IsDone, LabelsGrow, Turned, IsAgainst, IsFound, IsAnswer, recipe_of};
 
-use crate::index::{Group, Index, Move, index_of};
+use crate::index::{Group, Index, Link, Move, index_of};
 use crate::kept::{Kept, Recipe, keep};
 use crate::part::Part;
 use crate::set::Set;
 use crate::trees::{Head, Tree, add_elements, add_tree};
-use flux_atom::AtomKind;
+use flux_atom::{AtomKind, Name};
 use flux_auto::Auto;
 use std::alloc::{AllocError, Global};
 
@@ -80,8 +80,8 @@ fn put(
     requires tree { MovesBy part.now kept.old.items tree.now.head tree.now.moves.items }
     requires wide { AreWide (length part.now) tree.now.moves.items }
     requires rest { rest < length kept.old.items }
-    ensures { IfOk result (λ _. Puts part.now kept.old.items kept.new.items tree.now.moves.items
-        (set_at kept.old.items rest)) }
+    ensures { IfOk result (λ _. Puts part.now kept.old.items kept.new.items tree.now.head
+        tree.now.moves.items (set_at kept.old.items rest)) }
 {
     if is_silent(&tree.moves, &kept[rest].set) {
         return Ok(guess);
@@ -107,7 +107,8 @@ fn fill(
     requires from { from ≤ to }
     requires to { to ≤ length kept.old.items }
     ensures { IfOk result
-        (λ _. Fills part.now kept.old.items kept.new.items tree.now.moves.items from to) }
+        (λ _. Fills part.now kept.old.items kept.new.items tree.now.head tree.now.moves.items
+        from to) }
 {
     let mut place = guess;
     for rest in from..to {
@@ -162,19 +163,23 @@ fn turn(
     alloc: Global,
     part: &Part<'_>,
     groups: &[Group],
+    any: &[Link],
+    other: Name,
     kept: &mut Vec<Kept>,
     trees: &mut Vec<Tree>,
     lasts: &mut Vec<usize>,
     done: usize,
 ) -> Result<(), AllocError>
     requires so_far { IsDone part.now kept.old.items trees.old.items done }
-    requires groups { IndexesGroups part.now groups.now }
+    requires elements { IndexesElements part.now groups.now any.now }
+    requires lacks { LacksEdge part.now other }
     requires done { done < length kept.old.items }
     ensures { IfOk result
-        (λ _. Turned part.now kept.old.items kept.new.items trees.new.items done) }
+        (λ _. Turned part.now groups.now other kept.old.items kept.new.items trees.old.items
+        trees.new.items done) }
 {
     let before = trees.len();
-    add_elements(alloc, groups, &kept[done].set, done, trees)?;
+    add_elements(alloc, groups, any, other, &kept[done].set, done, trees)?;
     fill_all(alloc, part, kept, trees, lasts, before, done)?;
     Ok(())
 }
@@ -205,14 +210,19 @@ fn saturate(
     alloc: Global,
     part: &Part<'_>,
     groups: &[Group],
+    any: &[Link],
+    other: Name,
     left: u64,
     right: u64,
     kept: &mut Vec<Kept>,
     trees: &mut Vec<Tree>,
 ) -> Result<Option<usize>, AllocError>
     requires begun { IsDone part.now kept.old.items trees.old.items 0 }
-    requires groups { IndexesGroups part.now groups.now }
-    ensures { IfOk result (IsFound part.now kept.new.items left right) }
+    requires elements { IndexesElements part.now groups.now any.now }
+    requires lacks { LacksEdge part.now other }
+    ensures found { IfOk result (IsFound part.now kept.new.items left right) }
+    ensures labels { IfOk result (λ _. LabelsGrow groups.now other kept.old.items trees.old.items
+        kept.new.items trees.new.items) }
 {
     let mut lasts = Vec::new(alloc);
     let mut done = 0;
@@ -222,7 +232,9 @@ fn saturate(
             return Ok(Some(index));
         }
         seen = kept.len();
-        turn(alloc, part, groups, kept, trees, &mut lasts, done)?;
+        turn(
+            alloc, part, groups, any, other, kept, trees, &mut lasts, done,
+        )?;
         done += 1;
     }
     Ok(None)
@@ -232,25 +244,32 @@ fn saturate(
 pub(crate) fn search(
     alloc: Global,
     auto: &Auto,
+    other: Name,
     left: u64,
     right: u64,
     kept: &mut Vec<Kept>,
 ) -> Result<Option<usize>, AllocError>
+    requires lacks { LacksEdge auto.now.states other }
     requires nothing { kept.old.items ≡ [] }
     requires left { left < length auto.now.states }
     requires right { right < length auto.now.states }
-    ensures { IfOk result (IsAnswer auto.now.states kept.new.items left right) }
+    ensures { IfOk result (IsAnswer auto.now.states other kept.new.items left right) }
 {
     let part = Part::of(alloc, auto, left, right)?;
     let Index {
         bools,
         texts,
+        numbers,
+        any,
         groups,
     } = index_of(alloc, &part)?;
     let mut trees = Vec::new(alloc);
     add_tree(&mut trees, Head::Atom(AtomKind::Bool), bools)?;
     add_tree(&mut trees, Head::Atom(AtomKind::Text), texts)?;
+    add_tree(&mut trees, Head::Atom(AtomKind::Int), numbers)?;
     keep(kept, nil_profile(alloc, &part)?, Recipe::Nothing, 0)?;
-    let found = saturate(alloc, &part, &groups, left, right, kept, &mut trees)?;
+    let found = saturate(
+        alloc, &part, &groups, &any, other, left, right, kept, &mut trees,
+    )?;
     Ok(found)
 }

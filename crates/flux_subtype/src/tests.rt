@@ -1,6 +1,7 @@
 // What no clause says: that calls succeed, and answers worked out by hand.
 ghost use Rattle.std.specs.Prelude.{◌≡◌, ◌<◌, ◌↔◌, IsTrue, length, IfOk};
 ghost use Rattle.flux_schema.specs.Ty.{NamesBelow};
+ghost use Rattle.flux_schema.specs.Labels.{Lacks, BodiesLack};
 ghost use Rattle.flux_types.specs.Read.{ty_of};
 
 use crate::Profiles;
@@ -18,12 +19,37 @@ fn is_known(ty: &Ty, count: u32) -> bool
 {
     match ty {
         Ty::Empty | Ty::Atom(_) => true,
-        Ty::Elem(_, inner) | Ty::Star(inner) => is_known(inner.get(), count),
+        Ty::Elem(_, inner) | Ty::AnyElem(inner) | Ty::Star(inner) => is_known(inner.get(), count),
         Ty::Seq(left, right) | Ty::Alt(left, right) => {
             is_known(left.get(), count) && is_known(right.get(), count)
         }
         Ty::Named(index) => *index < count,
     }
+}
+
+// Whether a label doesn't stand in a type.
+fn lacks(ty: &Ty, label: Name) -> bool
+    ensures { IsTrue result → Lacks label (ty_of ty.now) }
+{
+    match ty {
+        Ty::Empty | Ty::Atom(_) | Ty::Named(_) => true,
+        Ty::Elem(first, inner) => *first != label && lacks(inner.get(), label),
+        Ty::AnyElem(inner) | Ty::Star(inner) => lacks(inner.get(), label),
+        Ty::Seq(left, right) | Ty::Alt(left, right) => {
+            lacks(left.get(), label) && lacks(right.get(), label)
+        }
+    }
+}
+
+fn bodies_lack(defs: &Defs, label: Name) -> bool
+    ensures { IsTrue result → BodiesLack label defs.now }
+{
+    for index in 0..defs.len() {
+        if !lacks(defs.unfold(index), label) {
+            return false;
+        }
+    }
+    true
 }
 
 // Types in prefix notation.
@@ -33,21 +59,25 @@ enum Sign {
     Kind(AtomKind),
     Named(u32),
     Element(Name),
+    AnyLabel,
     Star,
     Seq,
     Alt,
 }
 
-use Sign::{Alt, Element, Kind, Named, Nothing, Seq, Star};
+use Sign::{Alt, AnyLabel, Element, Kind, Named, Nothing, Seq, Star};
 
 const TEXT: Sign = Kind(AtomKind::Text);
 
 const TRUTH: Sign = Kind(AtomKind::Bool);
 
+const WHOLE: Sign = Kind(AtomKind::Int);
+
 fn one(alloc: Global, sign: Sign, parts: &mut Vec<Ty>) -> Result<Ty, AllocError> {
     let first = parts.pop().unwrap_or(Ty::Empty);
     match sign {
         Element(name) => Ok(Ty::Elem(name, Boxed::new(alloc, first)?)),
+        AnyLabel => Ok(Ty::AnyElem(Boxed::new(alloc, first)?)),
         Star => Ok(Ty::Star(Boxed::new(alloc, first)?)),
         _ => Ok(first),
     }
@@ -70,7 +100,7 @@ fn types(alloc: Global, signs: &[Sign]) -> Result<Vec<Ty>, AllocError> {
             Nothing => Ty::Empty,
             Kind(kind) => Ty::Atom(kind),
             Named(index) => Ty::Named(index),
-            Element(_) | Star => one(alloc, *sign, &mut parts)?,
+            Element(_) | AnyLabel | Star => one(alloc, *sign, &mut parts)?,
             Seq | Alt => two(alloc, *sign, &mut parts)?,
         };
         parts.push(made)?;
@@ -122,12 +152,13 @@ fn declare_many(
     Ok(draft)
 }
 
-// Labels, and the definitions 0 = a[0*], 1 = a[1*], 2 = c[2] and 3 = a[]|b[].
+// Labels, of which no type names `other`, and the definitions 0 = a[0*], 1 = a[1*], 2 = c[2] and 3 = a[]|b[].
 #[derive(Drop)]
 struct Scene {
     a: Name,
     b: Name,
     c: Name,
+    other: Name,
     defs: Defs,
 }
 
@@ -136,6 +167,7 @@ fn make_scene(rt: &impl Abort, alloc: Global) -> Result<Scene, Fail> {
     let a = label(rt, &mut names, "a")?;
     let b = label(rt, &mut names, "b")?;
     let c = label(rt, &mut names, "c")?;
+    let other = label(rt, &mut names, "other")?;
     let either = [Alt, Element(a), Nothing, Element(b), Nothing];
     let mut draft = declare_many(rt, alloc, &mut names, 4)?;
     set(
@@ -155,7 +187,13 @@ fn make_scene(rt: &impl Abort, alloc: Global) -> Result<Scene, Fail> {
     set(rt, &mut draft, 4, 2, ty(alloc, &[Element(c), Named(2)])?)?;
     set(rt, &mut draft, 4, 3, ty(alloc, &either)?)?;
     let defs = draft.close()?;
-    Ok(Scene { a, b, c, defs })
+    Ok(Scene {
+        a,
+        b,
+        c,
+        other,
+        defs,
+    })
 }
 
 // Whether a forest is a member of a type, by an automaton of its own.
@@ -163,12 +201,13 @@ fn is_member(
     rt: &impl Abort,
     alloc: Global,
     defs: &Defs,
+    other: Name,
     ty: &Ty,
     forest: &Forest,
 ) -> Result<bool, Fail> {
     assert!(rt; is_known(ty, defs.len()));
     assert!(rt; forest.is_whole());
-    let mut auto = Auto::new(alloc, defs)?;
+    let mut auto = Auto::new(alloc, defs, other)?;
     let start = auto.add(ty)?;
     Ok(auto.member(start, forest.view())?)
 }
@@ -177,6 +216,7 @@ fn assert_included(
     rt: &impl Abort,
     alloc: Global,
     defs: &Defs,
+    other: Name,
     left: &Ty,
     right: &Ty,
     want: bool,
@@ -184,13 +224,14 @@ fn assert_included(
     assert!(rt; is_known(left, defs.len()) && is_known(right, defs.len()));
     assert!(rt; size(left) <= 65_536 && height(left) <= 500);
     assert!(rt; size(right) <= 65_536 && height(right) <= 500);
-    let mut profiles = Profiles::new(defs);
+    assert!(rt; bodies_lack(defs, other) && lacks(left, other) && lacks(right, other));
+    let mut profiles = Profiles::new(defs, other);
     match profiles.included(alloc, left, right)? {
         Verdict::Yes => assert!(rt; want),
         Verdict::No(forest) => {
             assert!(rt; !want);
-            assert!(rt; is_member(rt, alloc, defs, left, &forest)?);
-            assert!(rt; !is_member(rt, alloc, defs, right, &forest)?);
+            assert!(rt; is_member(rt, alloc, defs, other, left, &forest)?);
+            assert!(rt; !is_member(rt, alloc, defs, other, right, &forest)?);
         }
     }
     Ok(())
@@ -202,8 +243,10 @@ fn sign_of(at: &Scene, byte: u8) -> Option<Sign> {
         b'a' => Some(Element(at.a)),
         b'b' => Some(Element(at.b)),
         b'c' => Some(Element(at.c)),
+        b'?' => Some(AnyLabel),
         b's' => Some(TEXT),
         b't' => Some(TRUTH),
+        b'i' => Some(WHOLE),
         b'*' => Some(Star),
         b',' => Some(Seq),
         b'|' => Some(Alt),
@@ -238,8 +281,8 @@ fn assert_cases(
     for want in wants {
         let left = parts.pop().unwrap_or(Ty::Empty);
         let right = parts.pop().unwrap_or(Ty::Empty);
-        assert_included(rt, alloc, &at.defs, &left, &right, want.0)?;
-        assert_included(rt, alloc, &at.defs, &right, &left, want.1)?;
+        assert_included(rt, alloc, &at.defs, at.other, &left, &right, want.0)?;
+        assert_included(rt, alloc, &at.defs, at.other, &right, &left, want.1)?;
     }
     assert!(rt; parts.is_empty());
     Ok(())
@@ -275,6 +318,45 @@ fn names_and_atoms(rt: HostRuntime) -> Result<(), Fail> {
         LEFT_ONLY, BOTH, BOTH, BOTH, LEFT_ONLY, RIGHT_ONLY, NEITHER, NEITHER,
     ];
     assert_cases(&rt, alloc, &at, text, &wants)
+}
+
+#[test]
+fn any_labels_and_numbers(rt: HostRuntime) -> Result<(), Fail> {
+    let alloc = rt.alloc();
+    let at = make_scene(&rt, alloc)?;
+    // a[]|b[] and any[]; any[any[]] and any[a[]]; any[int] and any[int|string]; int and string|bool;
+    // any[] and any[]|a[]; a[int] and any[string]; any[]* and (a[]|any[])*
+    let text = "|a.b. ?.  ??. ?a.  ?i ?|is  i |st  ?. |?.a.  ai ?s  *?. *|a.?.";
+    let wants = [
+        LEFT_ONLY, RIGHT_ONLY, LEFT_ONLY, NEITHER, BOTH, NEITHER, BOTH,
+    ];
+    assert_cases(&rt, alloc, &at, text, &wants)
+}
+
+#[test]
+fn a_label_that_no_type_names(rt: HostRuntime) -> Result<(), Fail> {
+    let alloc = rt.alloc();
+    let at = make_scene(&rt, alloc)?;
+    // any[] isn't in a[]|b[]: other[] is against it
+    let left = ty(alloc, &[AnyLabel, Nothing])?;
+    let right = ty(
+        alloc,
+        &[Alt, Element(at.a), Nothing, Element(at.b), Nothing],
+    )?;
+    let shown = ty(alloc, &[Element(at.other), Nothing])?;
+    assert!(rt; is_known(&left, at.defs.len()) && is_known(&right, at.defs.len()));
+    assert!(rt; size(&left) <= 65_536 && height(&left) <= 500);
+    assert!(rt; size(&right) <= 65_536 && height(&right) <= 500);
+    assert!(rt; lacks(&left, at.other) && lacks(&right, at.other));
+    assert!(rt; bodies_lack(&at.defs, at.other));
+    let mut profiles = Profiles::new(&at.defs, at.other);
+    match profiles.included(alloc, &left, &right)? {
+        Verdict::Yes => assert!(rt; false),
+        Verdict::No(forest) => {
+            assert!(rt; is_member(&rt, alloc, &at.defs, at.other, &shown, &forest)?);
+        }
+    }
+    Ok(())
 }
 
 // More names than calls that nest have room for: as many as a script has room for, and fewer where
@@ -323,12 +405,13 @@ fn chains_of_names(rt: HostRuntime) -> Result<(), Fail> {
     let mut names = Names::new(alloc);
     let a = label(&rt, &mut names, "a")?;
     let b = label(&rt, &mut names, "b")?;
+    let other = label(&rt, &mut names, "other")?;
     let head = Ty::Named(0);
     let last = ty(alloc, &[Element(a), Nothing])?;
     let plain = chain(&rt, alloc, &mut names, CHAIN, a, None)?;
-    assert_included(&rt, alloc, &plain, &head, &last, true)?;
-    assert_included(&rt, alloc, &plain, &last, &head, true)?;
+    assert_included(&rt, alloc, &plain, other, &head, &last, true)?;
+    assert_included(&rt, alloc, &plain, other, &last, &head, true)?;
     let choices = chain(&rt, alloc, &mut names, CHOICES, a, Some(b))?;
-    assert_included(&rt, alloc, &choices, &head, &last, false)?;
-    assert_included(&rt, alloc, &choices, &last, &head, true)
+    assert_included(&rt, alloc, &choices, other, &head, &last, false)?;
+    assert_included(&rt, alloc, &choices, other, &last, &head, true)
 }

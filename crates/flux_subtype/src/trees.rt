@@ -1,11 +1,11 @@
 // The trees that are kept, by the moves that they make.
-ghost use Rattle.std.specs.Prelude.{◌≡◌, IfOk, IsTrue};
+ghost use Rattle.std.specs.Prelude.{◌≡◌, ℕ, IfOk, IsTrue};
 ghost use Rattle.flux_subtype.specs.declared.trees.Tree.{Tree};
 ghost use Rattle.flux_subtype.specs.Going.{Has};
-ghost use Rattle.flux_subtype.specs.Index.{Differ};
+ghost use Rattle.flux_subtype.specs.Index.{Differ, HasLink};
 ghost use Rattle.flux_subtype.specs.Search.{AddsTree, AddsElements};
 
-use crate::index::{Group, Move, moves_along};
+use crate::index::{Group, Link, Move, add_copies, moves_along};
 use crate::set::Set;
 use flux_atom::{AtomKind, Name};
 use std::alloc::{AllocError, Global};
@@ -71,22 +71,30 @@ pub(crate) fn add_tree(
     Ok(())
 }
 
-// Keeps the elements of each label whose content has the profile at an index.
+// Keeps the elements of each label whose content has the profile at an index. An element of a label
+// that no group has goes by the links of any label alone, as one with the label `other` does.
 pub(crate) fn add_elements(
     alloc: Global,
     groups: &[Group],
+    any: &[Link],
+    other: Name,
     set: &Set,
     content: usize,
     trees: &mut Vec<Tree>,
 ) -> Result<(), AllocError>
-    requires { Differ groups.now }
+    requires differ { Differ groups.now }
+    requires lacks { (s c r : ℕ) → HasLink groups.now s other c r → ⊥ }
     ensures { IfOk result
-        (λ _. AddsElements groups.now set.now content trees.old.items trees.new.items) }
+        (λ _. AddsElements groups.now any.now other set.now content trees.old.items
+        trees.new.items) }
 {
+    let wide = moves_along(alloc, any, set)?;
     for index in 0..groups.len() {
         let group = &groups[index];
-        let moves = moves_along(alloc, &group.links, set)?;
+        let mut moves = moves_along(alloc, &group.links, set)?;
+        add_copies(alloc, &wide, &mut moves)?;
         add_tree(trees, Head::Elem(group.label, content), moves)?;
     }
+    add_tree(trees, Head::Elem(other, content), wide)?;
     Ok(())
 }

@@ -23,6 +23,7 @@ fn sample_of(alloc: Global, kind: AtomKind) -> Result<Atom, AllocError>
     match kind {
         AtomKind::Bool => Ok(Atom::Bool(false)),
         AtomKind::Text => Ok(Atom::Text(Word::of(alloc, "")?)),
+        AtomKind::Int => Ok(Atom::Int(0)),
     }
 }
 

@@ -153,6 +153,25 @@ fn reads_documents(rt: HostRuntime) -> Result<(), Fail> {
             "document:2:3: no forest\n",
         ),
         ("a[]]\n", Status::DocText, "", "document:1:4: no forest\n"),
+        ("1", Status::Done, "1\n", ""),
+        ("1,2 , -3", Status::Done, "1,2,-3\n", ""),
+        (
+            "a[-9223372036854775808]",
+            Status::Done,
+            "a[-9223372036854775808]\n",
+            "",
+        ),
+        (
+            "a[9223372036854775808]",
+            Status::DocText,
+            "",
+            "document:1:21: no forest\n",
+        ),
+        ("a[007]", Status::DocText, "", "document:1:4: no forest\n"),
+        ("a[-0]", Status::DocText, "", "document:1:4: no forest\n"),
+        ("a[1.5]", Status::DocText, "", "document:1:4: no forest\n"),
+        ("a[12abc]", Status::DocText, "", "document:1:5: no forest\n"),
+        ("-", Status::DocText, "", "document:1:2: no forest\n"),
     ];
     for (document, status, out, err) in table {
         let ended = run(rt.alloc(), "DELETE x", document)?;

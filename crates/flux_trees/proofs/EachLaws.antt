@@ -14,3 +14,8 @@ module _ {N : Type 0} where
   EachAtom-join P nil h p q = q
   EachAtom-join P (elem n a c r) h p q = (p.0, EachAtom-join P r h p.1 q)
   EachAtom-join P (leaf n x r) h p q = (p.0, EachAtom-join P r h p.1 q)
+
+  pub EachLabel-more : (P Q : ℕ → Type 0) → ((a : ℕ) → P a → Q a) → (h : Hedge N) → EachLabel P h → EachLabel Q h
+  EachLabel-more P Q f nil p = tt
+  EachLabel-more P Q f (elem n a c r) p = (f a p.0, EachLabel-more P Q f c p.1, EachLabel-more P Q f r p.2)
+  EachLabel-more P Q f (leaf n x r) p = EachLabel-more P Q f r p

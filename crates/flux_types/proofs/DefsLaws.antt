@@ -1,9 +1,9 @@
 -- The laws of the search for the one tree that a type stands for.
 use Rattle.std.proofs.Common.{◌≡◌, ◌<◌, ℕ, suc, Some, length, refl, sym, subst, arith}
 use Rattle.flux_atom.specs.declared.atom.AtomKind.{AtomKind}
-use Rattle.flux_schema.specs.Ty.{Ty, empty, atom, element, seq, alt, star, named, NamesBelow}
+use Rattle.flux_schema.specs.Ty.{Ty, empty, atom, element, any_element, seq, alt, star, named, NamesBelow}
 use Rattle.flux_schema.specs.Definitions.{Definitions, body_of, IsGood}
-use Rattle.flux_schema.specs.Single.{Single, of_atom, of_element, of_name}
+use Rattle.flux_schema.specs.Single.{Single, of_atom, of_element, of_any, of_name}
 use Rattle.flux_schema.proofs.Ranks.{rank_of, rank-falls}
 use Rattle.flux_schema.proofs.Singles.{single-unfolded}
 use Rattle.flux_types.specs.Kept.{IsKnownAtTop}
@@ -23,6 +23,7 @@ pub known_at_top : (defs : Definitions) (t : Ty) → NamesBelow (length defs) t 
 known_at_top defs empty b = tt
 known_at_top defs (atom k) b = tt
 known_at_top defs (element n t) b = tt
+known_at_top defs (any_element t) b = tt
 known_at_top defs (seq t u) b = tt
 known_at_top defs (alt t u) b = tt
 known_at_top defs (star t) b = tt
@@ -37,6 +38,7 @@ pub steps-fall : (defs : Definitions) → IsGood defs → (x : ℕ) (t : Ty) →
 steps-fall defs good x empty e = omega arith
 steps-fall defs good x (atom k) e = omega arith
 steps-fall defs good x (element n t) e = omega arith
+steps-fall defs good x (any_element t) e = omega arith
 steps-fall defs good x (seq t u) e = omega arith
 steps-fall defs good x (alt t u) e = omega arith
 steps-fall defs good x (star t) e = omega arith
@@ -47,3 +49,6 @@ self_atom defs t k e = subst (λ u. Single defs u u) (sym e) (of_atom k)
 
 pub self_element : (defs : Definitions) (t : Ty) (n : ℕ) (u : Ty) → t ≡ element n u → Single defs t t
 self_element defs t n u e = subst (λ u. Single defs u u) (sym e) (of_element n u)
+
+pub self_any : (defs : Definitions) (t u : Ty) → t ≡ any_element u → Single defs t t
+self_any defs t u e = subst (λ u. Single defs u u) (sym e) (of_any u)

@@ -3,7 +3,7 @@ use Rattle.std.proofs.Common.{◌≡◌, ◌⊎◌, ◌<◌, ◌≤◌, ◌+◌,
 use Rattle.std.proofs.lemmas.Option.{same_Some}
 use Rattle.std.proofs.Math.ListN.{set}
 use Rattle.std.specs.Option.{option_map, is_some}
-use Rattle.flux_schema.specs.Ty.{Ty, empty, atom, element, seq, alt, star, named, NamesBelow}
+use Rattle.flux_schema.specs.Ty.{Ty, empty, atom, element, any_element, seq, alt, star, named, NamesBelow}
 use Rattle.flux_schema.specs.Definitions.{Definitions, Declared, Declarations, names_of, declared_names, body_of, declared_body, as_declared, with_body, Differ, LacksBody, Leads, Reaches, at_once, through, AreKnown, IsFirst, ReachesItself}
 use Rattle.flux_schema.proofs.MarkLaws.{le_or}
 use Rattle.flux_types.specs.declared.defs.Kept.{Kept}
@@ -96,6 +96,7 @@ pub NamesBelow-more : (n m : ℕ) → n ≤ m → (t : Ty) → NamesBelow n t �
 NamesBelow-more n m h empty b = b
 NamesBelow-more n m h (atom k) b = b
 NamesBelow-more n m h (element l t) b = NamesBelow-more n m h t b
+NamesBelow-more n m h (any_element t) b = NamesBelow-more n m h t b
 NamesBelow-more n m h (seq t u) b = (NamesBelow-more n m h t b.0, NamesBelow-more n m h u b.1)
 NamesBelow-more n m h (alt t u) b = (NamesBelow-more n m h t b.0, NamesBelow-more n m h u b.1)
 NamesBelow-more n m h (star t) b = NamesBelow-more n m h t b

@@ -2,7 +2,7 @@
 use Rattle.std.proofs.Common.{◌≡◌, ◌⊎◌, ◌<◌, ◌+◌, ◌++◌, ◌↔◌, ℕ, zero, suc, List, [], ◌∷◌, Option, Some, Bool, true, false, length, get_or, replicate, refl, sym, ap, subst, ◌∙◌, inl, inr, arith}
 use Rattle.std.proofs.lemmas.Option.{same_Some}
 use Rattle.std.proofs.Math.ListN.{set}
-use Rattle.flux_schema.specs.Ty.{Ty, empty, atom, element, seq, alt, star, named, NamesBelow}
+use Rattle.flux_schema.specs.Ty.{Ty, empty, atom, element, any_element, seq, alt, star, named, NamesBelow}
 use Rattle.flux_schema.specs.Definitions.{StandsIn, Leads, Reaches, at_once, through}
 use Rattle.flux_schema.specs.Marks.{IsMarked}
 use Rattle.flux_schema.proofs.MarkLaws.{marked-set, set-marked, set-kept, unmarked-set, none_marked}
@@ -89,6 +89,7 @@ stands_below : (n : ℕ) (t : Ty) (y : ℕ) → NamesBelow n t → StandsIn y t 
 stands_below n empty y b s = absurd s
 stands_below n (atom k) y b s = absurd s
 stands_below n (element m t) y b s = absurd s
+stands_below n (any_element t) y b s = absurd s
 stands_below n (seq t u) y b (inl s) = stands_below n t y b.0 s
 stands_below n (seq t u) y b (inr s) = stands_below n u y b.1 s
 stands_below n (alt t u) y b (inl s) = stands_below n t y b.0 s

@@ -1,7 +1,7 @@
 -- The definitions that the structs of this crate hold.
 use Rattle.std.specs.Prelude.{◌≡◌, ◌<◌, ◌^◌, ℕ, List, Some, length, map}
 use Rattle.std.specs.Option.{option_map}
-use Rattle.flux_schema.specs.Ty.{Ty, empty, atom, element, seq, alt, star, named, NamesBelow, IsWithinLimits}
+use Rattle.flux_schema.specs.Ty.{Ty, empty, atom, element, any_element, seq, alt, star, named, NamesBelow, IsWithinLimits}
 use Rattle.flux_schema.specs.Definitions.{Definition, Definitions, Declared, Declarations, body_of, declared_names, declared_body, Differ, IsGood}
 use Rattle.flux_types.specs.declared.defs.Kept.{Kept}
 use Rattle.flux_types.specs.declared.draft.Entry.{Entry}
@@ -41,6 +41,7 @@ abbrev pub IsKnownAtTop : Definitions → Ty → Type 0
 IsKnownAtTop defs empty = Unit {0}
 IsKnownAtTop defs (atom k) = Unit {0}
 IsKnownAtTop defs (element n t) = Unit {0}
+IsKnownAtTop defs (any_element t) = Unit {0}
 IsKnownAtTop defs (seq t u) = Unit {0}
 IsKnownAtTop defs (alt t u) = Unit {0}
 IsKnownAtTop defs (star t) = Unit {0}

@@ -3,7 +3,6 @@ ghost use Rattle.std.specs.Prelude.{◌≡◌, ◌<◌, ℕ, Some, length, slice
 ghost use Rattle.std.specs.Option.{option_map};
 ghost use Rattle.flux_schema.specs.Definitions.{body_of, IsGood};
 ghost use Rattle.flux_schema.specs.Fits.{MembershipComputes};
-ghost use Rattle.flux_schema.specs.Labels.{MembersHaveLabelsOfTheirTypes};
 ghost use Rattle.flux_schema.specs.Single.{Single, IsNotSingle};
 ghost use Rattle.flux_types.specs.Read.{ty_of};
 ghost use Rattle.flux_types.specs.Kept.{definitions_of, AreKept, IsKnownAtTop};
@@ -115,7 +114,7 @@ pub fn single<'t>(defs: &'t Defs, ty: &'t Ty) -> Option<&'t Ty>
         ty = defs.unfold(*index);
     }
     match ty {
-        Ty::Atom(_) | Ty::Elem(_, _) => Some(ty),
+        Ty::Atom(_) | Ty::Elem(_, _) | Ty::AnyElem(_) => Some(ty),
         _ => None,
     }
 }
@@ -127,10 +126,3 @@ pub fn membership_computes(defs: &Defs)
 {
     let _kept = &defs.kept;
 }
-
-/// Each label of a member of a type is a label of the type, or of a body that it reaches through
-/// names at any level. So a forest that is shown as a member has no label that its type hasn't. It
-/// does nothing: its contract is the law.
-pub fn members_have_labels_of_their_types()
-    ensures { MembersHaveLabelsOfTheirTypes }
-{}

@@ -11,7 +11,7 @@ mod tidied;
 mod ty;
 
 pub use decider::{Decider, Verdict};
-pub use defs::{Defs, members_have_labels_of_their_types, membership_computes, single};
+pub use defs::{Defs, membership_computes, single};
 pub use draft::{DefFault, Draft};
 pub use text::write_type;
 pub use tidied::tidy;

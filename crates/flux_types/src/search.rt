@@ -50,7 +50,7 @@ fn mark_standing(ty: &Ty, marks: &mut [bool], waiting: &mut Vec<u32>) -> Result<
         (Visits (ty_of ty.now) marks.old marks.new waiting.old.items waiting.new.items) }
 {
     match ty {
-        Ty::Empty | Ty::Atom(_) | Ty::Elem(_, _) => Ok(()),
+        Ty::Empty | Ty::Atom(_) | Ty::Elem(_, _) | Ty::AnyElem(_) => Ok(()),
         Ty::Seq(left, right) | Ty::Alt(left, right) => {
             mark_standing(left.get(), marks, waiting)?;
             mark_standing(right.get(), marks, waiting)

@@ -54,6 +54,13 @@ fn star(alloc: Global, names: &Names, inner: Ty) -> Result<Ty, AllocError>
     Ok(Ty::Star(Boxed::new(alloc, inner)?))
 }
 
+fn any(alloc: Global, names: &Names, inner: Ty) -> Result<Ty, AllocError>
+    requires { IsWritable (length names.now) [] (ty_of inner) }
+    ensures { IfOk result (λ made. IsWritable (length names.now) [] (ty_of made)) }
+{
+    Ok(Ty::AnyElem(Boxed::new(alloc, inner)?))
+}
+
 // Asserts the text of a type that names no definition.
 #[tactic(auto, using(flux_schema::proofs::TidyLaws::tidy_writable))]
 fn assert_text(
@@ -178,6 +185,32 @@ fn text_of_sequences(rt: HostRuntime) -> Result<(), Fail> {
     assert_text(&rt, alloc, &names, made, "a[],b[],c[]")
 }
 
+#[test]
+fn text_of_elements_of_any_label(rt: HostRuntime) -> Result<(), Fail> {
+    let alloc = rt.alloc();
+    let mut names = Names::new(alloc);
+    let a = name(&mut names, "a")?;
+    let word = name(&mut names, "any")?;
+    let number = name(&mut names, "int")?;
+    // any[a[int]|'any'[]]
+    let left = element(alloc, &names, a, Ty::Atom(AtomKind::Int))?;
+    let right = leaf(alloc, &names, word)?;
+    let made = alt(alloc, &names, left, right)?;
+    let made = any(alloc, &names, made)?;
+    assert_text(&rt, alloc, &names, made, "any[a[int]|'any'[]]")?;
+    let made = element(alloc, &names, number, Ty::Atom(AtomKind::Int))?;
+    assert_text(&rt, alloc, &names, made, "int[int]")?;
+    // any[(),()]
+    let made = seq(alloc, &names, Ty::Empty, Ty::Empty)?;
+    let made = any(alloc, &names, made)?;
+    assert_text(&rt, alloc, &names, made, "any[]")?;
+    // any[a[]]|any[a[]]
+    let left = any(alloc, &names, leaf(alloc, &names, a)?)?;
+    let right = any(alloc, &names, leaf(alloc, &names, a)?)?;
+    let made = alt(alloc, &names, left, right)?;
+    assert_text(&rt, alloc, &names, made, "any[a[]]")
+}
+
 #[tactic(auto, using(crate::proofs::KeptLaws::counts))]
 fn set(rt: &impl Abort, draft: &mut Draft, index: u32, body: Ty) -> Result<(), AllocError>
     requires declared { index < length draft.old }
@@ -217,6 +250,19 @@ fn repeated_or_empty(alloc: Global) -> Result<Ty, AllocError>
     Ok(Ty::Alt(Boxed::new(alloc, Ty::Empty)?, Boxed::new(alloc, inner)?))
 }
 
+fn before_any(alloc: Global) -> Result<Ty, AllocError>
+    ensures { IfOk result (λ made. NamesBelow 1 (ty_of made)) }
+{
+    let inner = Ty::AnyElem(Boxed::new(alloc, Ty::Empty)?);
+    Ok(Ty::Seq(Boxed::new(alloc, Ty::Named(0))?, Boxed::new(alloc, inner)?))
+}
+
+fn under_any(alloc: Global) -> Result<Ty, AllocError>
+    ensures { IfOk result (λ made. NamesBelow 1 (ty_of made)) }
+{
+    Ok(Ty::AnyElem(Boxed::new(alloc, Ty::Named(0))?))
+}
+
 fn under_element(alloc: Global, label: Name) -> Result<Ty, AllocError>
     ensures { IfOk result (λ made. NamesBelow 1 (ty_of made)) }
 {
@@ -232,6 +278,9 @@ fn a_name_that_reaches_itself(rt: HostRuntime) -> Result<(), Fail> {
     // X = X,a[]
     let closed = close_one(&rt, alloc, label, before_element(alloc, label)?)?;
     assert!(rt; matches!(closed, Err(DefFault::Unguarded { index: 0 })));
+    // X = X,any[]
+    let closed = close_one(&rt, alloc, label, before_any(alloc)?)?;
+    assert!(rt; matches!(closed, Err(DefFault::Unguarded { index: 0 })));
     // X = ()|X*
     let closed = close_one(&rt, alloc, label, repeated_or_empty(alloc)?)?;
     assert!(rt; matches!(closed, Err(DefFault::Unguarded { index: 0 })));
@@ -246,6 +295,13 @@ fn a_name_under_an_element(rt: HostRuntime) -> Result<(), Fail> {
     // X = a[X]*
     let defs = close_one(&rt, alloc, label, under_element(alloc, label)?)??;
     assert_eq!(rt; defs.len(), 1);
+    // X = any[X]
+    let defs = close_one(&rt, alloc, label, under_any(alloc)?)??;
+    assert_eq!(rt; defs.len(), 1);
+    let body = defs.unfold(0);
+    assert!(rt; matches!(single(&defs, body), Some(Ty::AnyElem(_))));
+    assert_eq!(rt; size(body), 2);
+    assert_eq!(rt; height(body), 2);
     Ok(())
 }
 

@@ -1,7 +1,7 @@
 // The text of types.
 ghost use Rattle.std.specs.Prelude.{◌≡◌, ◌<◌, ◌++◌, [], length, if◌then◌else◌, OnOk, OnErr, slice_get, IsSomeAnd};
 ghost use Rattle.flux_schema.specs.Tidy.{tidy};
-ghost use Rattle.flux_schema.specs.TypeText.{text_of, name_text, quoted, definition_text, kind_text, is_choice, is_list, is_empty, enclosed, IsWritable};
+ghost use Rattle.flux_schema.specs.TypeText.{text_of, name_text, quoted, definition_text, kind_text, is_choice, is_list, is_empty, content_text, enclosed, IsWritable};
 ghost use Rattle.flux_types.specs.Read.{ty_of};
 
 use crate::{Defs, Ty, tidy};
@@ -41,10 +41,11 @@ fn push_type(defs: &Defs, ty: &Ty, names: &Names, out: &mut Vec<u8>) -> Result<(
         Ty::Atom(kind) => push_kind(*kind, out),
         Ty::Elem(label, content) => {
             push_label(*label, names, out)?;
-            out.push(b'[')?;
-            push_content(defs, content.get(), names, out)?;
-            out.push(b']')?;
-            Ok(())
+            push_content(defs, content.get(), names, out)
+        }
+        Ty::AnyElem(content) => {
+            out.extend_from_slice(b"any")?;
+            push_content(defs, content.get(), names, out)
         }
         Ty::Seq(left, right) => {
             push_part(defs, left.get(), names, out, is_choice(left.get()))?;
@@ -89,13 +90,15 @@ fn push_part(
 #[cycle(push_type)]
 fn push_content(defs: &Defs, ty: &Ty, names: &Names, out: &mut Vec<u8>) -> Result<(), AllocError>
     requires { IsWritable (length names.now) defs.now (ty_of ty.now) }
-    ensures { OnOk result (out.new.items ≡ out.old.items ++
-        (if is_empty (ty_of ty.now) then [] else text_of names.now defs.now (ty_of ty.now))) }
+    ensures { OnOk result (out.new.items ≡ out.old.items
+        ++ content_text (ty_of ty.now) (text_of names.now defs.now (ty_of ty.now))) }
 {
-    if is_empty(ty) {
-        return Ok(());
+    out.push(b'[')?;
+    if !is_empty(ty) {
+        push_type(defs, ty, names, out)?;
     }
-    push_type(defs, ty, names, out)
+    out.push(b']')?;
+    Ok(())
 }
 
 fn is_choice(ty: &Ty) -> bool
@@ -122,6 +125,7 @@ fn push_kind(kind: AtomKind, out: &mut Vec<u8>) -> Result<(), AllocError>
     match kind {
         AtomKind::Bool => out.extend_from_slice(b"bool"),
         AtomKind::Text => out.extend_from_slice(b"string"),
+        AtomKind::Int => out.extend_from_slice(b"int"),
     }
 }
 
@@ -130,7 +134,7 @@ fn push_label(label: Name, names: &Names, out: &mut Vec<u8>) -> Result<(), Alloc
     ensures { OnOk result (out.new.items ≡ out.old.items ++ quoted (name_text names.now label)) }
 {
     let text = names.text(label);
-    if !is_reserved(text) {
+    if !is_reserved(text) && text != "any" {
         return out.extend_from_slice(text.as_bytes());
     }
     out.push(b'\'')?;

@@ -30,6 +30,10 @@ fn tree(alloc: Global, ty: &Ty) -> Result<Ty, AllocError>
             let inner = tree(alloc, inner.get())?;
             Ok(Ty::Elem(*label, Boxed::new(alloc, inner)?))
         }
+        Ty::AnyElem(inner) => {
+            let inner = tree(alloc, inner.get())?;
+            Ok(Ty::AnyElem(Boxed::new(alloc, inner)?))
+        }
         Ty::Seq(left, right) => {
             let left = tree(alloc, left.get())?;
             let right = tree(alloc, right.get())?;

@@ -7,7 +7,7 @@ ghost use Rattle.flux_types.specs.Read.{ty_of};
 use flux_atom::{AtomKind, Boxed, Name};
 use std::alloc::{AllocError, Global};
 
-/// A regular expression over truth values, texts and elements. Contracts read it as the type of
+/// A regular expression over truth values, texts, whole numbers and elements. Contracts read it as the type of
 /// the calculus that it spells. A type is dropped by a recursion as deep as its height: at most 500
 /// for one within the limits.
 #[derive(Debug, Drop)]
@@ -18,6 +18,8 @@ pub enum Ty {
     Atom(AtomKind),
     /// One element with the label, and a type of its content.
     Elem(Name, Boxed<Ty>),
+    /// One element of any label, and a type of its content.
+    AnyElem(Boxed<Ty>),
     /// One type and then another.
     Seq(Boxed<Ty>, Boxed<Ty>),
     /// One of two types.
@@ -34,7 +36,9 @@ pub fn size(ty: &Ty) -> u64
 {
     match ty {
         Ty::Empty | Ty::Atom(_) | Ty::Named(_) => 1,
-        Ty::Elem(_, inner) | Ty::Star(inner) => size(inner.get()).saturating_add(1),
+        Ty::Elem(_, inner) | Ty::AnyElem(inner) | Ty::Star(inner) => {
+            size(inner.get()).saturating_add(1)
+        }
         Ty::Seq(left, right) | Ty::Alt(left, right) => size(left.get())
             .saturating_add(size(right.get()))
             .saturating_add(1),
@@ -47,7 +51,9 @@ pub fn height(ty: &Ty) -> u64
 {
     match ty {
         Ty::Empty | Ty::Atom(_) | Ty::Named(_) => 1,
-        Ty::Elem(_, inner) | Ty::Star(inner) => height(inner.get()).saturating_add(1),
+        Ty::Elem(_, inner) | Ty::AnyElem(inner) | Ty::Star(inner) => {
+            height(inner.get()).saturating_add(1)
+        }
         Ty::Seq(left, right) | Ty::Alt(left, right) => {
             let left = height(left.get());
             let right = height(right.get());
@@ -66,6 +72,7 @@ pub fn copy_of(alloc: Global, ty: &Ty) -> Result<Ty, AllocError>
         Ty::Elem(label, inner) => {
             Ty::Elem(*label, Boxed::new(alloc, copy_of(alloc, inner.get())?)?)
         }
+        Ty::AnyElem(inner) => Ty::AnyElem(Boxed::new(alloc, copy_of(alloc, inner.get())?)?),
         Ty::Seq(left, right) => Ty::Seq(
             Boxed::new(alloc, copy_of(alloc, left.get())?)?,
             Boxed::new(alloc, copy_of(alloc, right.get())?)?,
@@ -91,6 +98,10 @@ pub(crate) fn is_same(left: &Ty, right: &Ty) -> bool
         },
         Ty::Elem(n, t) => match right {
             Ty::Elem(m, u) => n == m && is_same(t.get(), u.get()),
+            _ => false,
+        },
+        Ty::AnyElem(t) => match right {
+            Ty::AnyElem(u) => is_same(t.get(), u.get()),
             _ => false,
         },
         Ty::Seq(t, u) => match right {

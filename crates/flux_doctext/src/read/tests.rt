@@ -29,77 +29,112 @@ fn fault(rt: &impl Abort, alloc: Global, document: &[u8]) -> Result<Option<u32>,
     }
 }
 
-#[test]
-fn spellings(rt: HostRuntime) -> Result<(), Fail> {
-    let alloc = rt.alloc();
-    for (document, text, count) in [
-        (
-            b" a [ \"x\" ] , b[] \n".as_slice(),
-            b"a[\"x\"],b[]".as_slice(),
-            2,
-        ),
-        (b"lib[ ]", b"lib[]", 1),
-        (b"a[\"\\u{41}\\\"\\n\"]", b"a[\"A\\\"\\n\"]", 1),
-        (b"( )", b"()", 0),
-        (b"a[()]", b"a[]", 1),
-        (b"()", b"()", 0),
-        (b"\t(\r)\n", b"()", 0),
-        (b"truex[]", b"truex[]", 1),
-        (b"true,false", b"true,false", 0),
-        (b"true ,\nfalse\t", b"true,false", 0),
-        (b"a[true]", b"a[true]", 1),
-        (b"a[ ( ) ] ", b"a[]", 1),
-        (b"a\n[b\t[\"\\u{0000e9}\"]]", b"a[b[\"\xC3\xA9\"]]", 2),
-        (b"a[b[],a[]],b[]", b"a[b[],a[]],b[]", 2),
-        (LIBRARY, LIBRARY, 3),
-    ] {
-        let (written, names) = canonical(&rt, alloc, document)?;
-        assert_eq!(rt; written.as_slice(), text);
-        assert_eq!(rt; names, count, "{document:?}");
-    }
-    Ok(())
+// What a text gives.
+#[derive(Clone, Copy)]
+enum Wanted {
+    // A forest with this canonical text, and so many names.
+    Forest(&'static str, usize),
+    // No forest: the text stops being the beginning of one at this place.
+    Place(u32),
 }
 
+use Wanted::{Forest, Place};
+
 #[test]
-fn places(rt: HostRuntime) -> Result<(), Fail> {
+fn documents(rt: HostRuntime) -> Result<(), Fail> {
     let alloc = rt.alloc();
-    for (document, place) in [
-        (b"lib[book[\"A\"".as_slice(), 12),
-        (b"\"\\u{00D800}\"", 9),
-        (b"", 0),
-        (b" \t\r\n", 4),
-        (b"a,", 1),
-        (b"a[],", 4),
-        (b",a[]", 0),
-        (b"a[]]", 3),
-        (b"(),a[]", 2),
-        (b"a b", 2),
-        (b"a", 1),
-        (b"a[b", 3),
-        (b"a[b]", 3),
-        (b"a[b[],]", 6),
-        (b"a[,b[]]", 2),
-        (b"a[]b[]", 3),
-        (b"true[", 4),
-        (b"true [", 5),
-        (b"truex", 5),
-        (b"truex,", 5),
-        (b"\"a\"\"b\"", 3),
-        (b"(", 1),
-        (b"(()", 1),
-        (b")", 0),
-        (b"]", 0),
-        (b"()()", 2),
-        (b"a[()b[]]", 4),
-        (b"9[]", 0),
-        (b"a[]\xEF", 3),
-        (b"\xEF\xBB\xBFa[]", 0),
-        (b"\"\xFF\"", 1),
-        (b"\"\xED\xA0\x80\"", 2),
-        (b"\"\\x\"", 2),
-        (b"\"ab\\u{", 6),
+    for (document, wanted) in [
+        (
+            b" a [ \"x\" ] , b[] \n".as_slice(),
+            Forest("a[\"x\"],b[]", 2),
+        ),
+        (b"lib[ ]", Forest("lib[]", 1)),
+        (b"a[\"\\u{41}\\\"\\n\"]", Forest("a[\"A\\\"\\n\"]", 1)),
+        (b"( )", Forest("()", 0)),
+        (b"a[()]", Forest("a[]", 1)),
+        (b"()", Forest("()", 0)),
+        (b"\t(\r)\n", Forest("()", 0)),
+        (b"truex[]", Forest("truex[]", 1)),
+        (b"true,false", Forest("true,false", 0)),
+        (b"true ,\nfalse\t", Forest("true,false", 0)),
+        (b"a[true]", Forest("a[true]", 1)),
+        (b"a[ ( ) ] ", Forest("a[]", 1)),
+        (b"a\n[b\t[\"\\u{0000e9}\"]]", Forest("a[b[\"é\"]]", 2)),
+        (b"a[b[],a[]],b[]", Forest("a[b[],a[]],b[]", 2)),
+        (LIBRARY, Forest("lib[book[\"A\"],cd[\"B\"]]", 3)),
+        (b"1", Forest("1", 0)),
+        (b"\t-10\r\n", Forest("-10", 0)),
+        (b"1,2 , -3", Forest("1,2,-3", 0)),
+        (b"a[0,b[7],true]", Forest("a[0,b[7],true]", 2)),
+        (
+            b"a[9223372036854775807]",
+            Forest("a[9223372036854775807]", 1),
+        ),
+        (
+            b"a[-9223372036854775808]",
+            Forest("a[-9223372036854775808]", 1),
+        ),
+        (b"lib[book[\"A\"", Place(12)),
+        (b"\"\\u{00D800}\"", Place(9)),
+        (b"", Place(0)),
+        (b" \t\r\n", Place(4)),
+        (b"a,", Place(1)),
+        (b"a[],", Place(4)),
+        (b",a[]", Place(0)),
+        (b"a[]]", Place(3)),
+        (b"(),a[]", Place(2)),
+        (b"a b", Place(2)),
+        (b"a", Place(1)),
+        (b"a[b", Place(3)),
+        (b"a[b]", Place(3)),
+        (b"a[b[],]", Place(6)),
+        (b"a[,b[]]", Place(2)),
+        (b"a[]b[]", Place(3)),
+        (b"true[", Place(4)),
+        (b"true [", Place(5)),
+        (b"truex", Place(5)),
+        (b"truex,", Place(5)),
+        (b"\"a\"\"b\"", Place(3)),
+        (b"(", Place(1)),
+        (b"(()", Place(1)),
+        (b")", Place(0)),
+        (b"]", Place(0)),
+        (b"()()", Place(2)),
+        (b"a[()b[]]", Place(4)),
+        (b"9[]", Place(1)),
+        (b"a[]\xEF", Place(3)),
+        (b"\xEF\xBB\xBFa[]", Place(0)),
+        (b"\"\xFF\"", Place(1)),
+        (b"\"\xED\xA0\x80\"", Place(2)),
+        (b"\"\\x\"", Place(2)),
+        (b"\"ab\\u{", Place(6)),
+        (b"a[007]", Place(3)),
+        (b"a[-0]", Place(3)),
+        (b"a[9223372036854775808]", Place(20)),
+        (b"a[-9223372036854775809]", Place(21)),
+        (b"a[1.5]", Place(3)),
+        (b"a[12abc]", Place(4)),
+        (b"a[1b[]]", Place(3)),
+        (b"a[1 2]", Place(4)),
+        (b"a[1-2]", Place(3)),
+        (b"a[- 1]", Place(3)),
+        (b"+1", Place(0)),
+        (b".5", Place(0)),
+        (b"-", Place(1)),
+        (b"1,", Place(2)),
+        (b"a[1", Place(3)),
     ] {
-        assert_eq!(rt; fault(&rt, alloc, document)?, Some(place), "{document:?}");
+        match wanted {
+            Forest(text, count) => {
+                let (written, names) = canonical(&rt, alloc, document)?;
+                assert_eq!(rt; written.as_slice(), text.as_bytes());
+                assert_eq!(rt; names, count, "{document:?}");
+            }
+            Place(place) => {
+                let stopped = fault(&rt, alloc, document)?;
+                assert_eq!(rt; stopped, Some(place), "{document:?}");
+            }
+        }
     }
     Ok(())
 }

@@ -133,6 +133,33 @@ fn truths(alloc: Global, count: usize) -> Result<Forest, AllocError>
     Ok(forest)
 }
 
+// Two numbers in a row.
+#[tactic(auto, using(flux_trees::proofs::DraftLaws::drafts))]
+fn numbers(alloc: Global, first: i64, second: i64) -> Result<Forest, AllocError>
+    ensures { IfOk result (λ forest. depth forest ≡ 0) }
+{
+    let mut forest = Forest::new(alloc);
+    forest.push_atom(Atom::Int(first))?;
+    forest.push_atom(Atom::Int(second))?;
+    Ok(forest)
+}
+
+#[test]
+fn tells_numbers_apart(rt: HostRuntime) -> Result<(), Fail> {
+    let alloc = rt.alloc();
+    let row = numbers(alloc, i64::MIN, i64::MAX)?;
+    let again = numbers(alloc, i64::MIN, i64::MAX)?;
+    let other = numbers(alloc, i64::MIN, i64::MIN)?;
+    let truths = truths(alloc, 2)?;
+    assert!(rt; row.view().equal(again.view()));
+    assert!(rt; !row.view().equal(other.view()));
+    assert!(rt; !row.view().equal(truths.view()));
+    let copied = row.view().copy(alloc)?;
+    assert!(rt; copied.is_whole() && copied.view().equal(row.view()));
+    assert_eq!(rt; copied.view().count(), 2);
+    Ok(())
+}
+
 #[test]
 fn tells_forests_apart(rt: HostRuntime) -> Result<(), Fail> {
     let alloc = rt.alloc();

@@ -9,4 +9,4 @@ returns c =
     let a = c.args.arcs.now in
     let vs = c.make_place.new.by_label.items in
     adds_arc a _ vs c.args.label c.number-number.result c.push.new.self c.index_mut.result.now c.args.arc c.in_ok-make_place.ensures.same c.number-number.ensures c.in_ok-make_place.ensures.there
-    (c.in_ok-push.ensures.items ∙ ap (λ (v : Vec Arc Global). v.items ++ c.args.arc ∷ []) c.index_mut.ensures.value) refl refl refl
+    (c.in_ok-push.ensures.items ∙ ap (λ (v : Vec Arc Global). v.items ++ c.args.arc ∷ []) c.index_mut.ensures.value) refl refl refl refl refl

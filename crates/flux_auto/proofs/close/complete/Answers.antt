@@ -1,4 +1,6 @@
-use Rattle.std.proofs.Common.{arith}
+use Rattle.std.proofs.Common.{arith, subst, List}
+use Rattle.flux_auto.specs.declared.table.Cell.{Cell}
+use Rattle.flux_auto.specs.Standing.{IsTableLabel}
 use Rattle.flux_auto.proofs.Growing.{grows_by}
 use Rattle.flux_auto.proofs.Reading.{ground_on}
 use Rattle.flux_auto.proofs.Closing.{closed_carried}
@@ -14,3 +16,6 @@ returns-clause-ok c = record {
       (omega (arith, c.requires.begun, c.requires.there)) c.in_ok-close_all.ensures.even;
   closed = c.in_ok-close_all.ensures.closed;
 }
+
+pub returns-clause-labels : goal.returns-clause-labels
+returns-clause-labels c = λ n h. c.in_ok-fill_all.ensures.labels n (subst (λ (l : List Cell). IsTableLabel c.args.defs.now l n) c.in_ok-close_all.ensures.cells h)

@@ -2,7 +2,7 @@ use Rattle.std.proofs.Common.{refl, arith, length}
 use Rattle.flux_types.specs.Read.{ty_of}
 use Rattle.flux_auto.proofs.Growing.{grows_less, grows_same, grows_set}
 use Rattle.flux_auto.proofs.Reading.{null_iff}
-use Rattle.flux_auto.proofs.Closing.{awaits_head, awaits_ready, awaits_below, filled_by}
+use Rattle.flux_auto.proofs.Closing.{awaits_head, awaits_ready, awaits_labels, awaits_below, filled_by}
 use Rattle.flux_auto.proofs.close.fill.Goals as goal
 
 pub returns-in_err-head-clause-grows : goal.returns-in_err-head-clause-grows
@@ -11,6 +11,10 @@ returns-in_err-head-clause-grows c = grows_same c.args.state c.args.table.now (o
 pub linear-requires-clause-ready : goal.linear-requires-clause-ready
 linear-requires-clause-ready c =
     awaits_ready c.args.defs.now _ c.args.state c.args.table.now.cells.items c.requires.awaits c.in_ok-head.head (awaits_head c.args.defs.now _ c.args.state c.args.table.now.cells.items c.requires.awaits c.index.result.now c.in_ok-head.head c.index.ensures c.in_ok-head.ensures)
+
+pub linear-requires-clause-labels : goal.linear-requires-clause-labels
+linear-requires-clause-labels c =
+    awaits_labels c.args.defs.now _ c.args.state c.args.table.now.cells.items c.requires.awaits c.in_ok-head.head (awaits_head c.args.defs.now _ c.args.state c.args.table.now.cells.items c.requires.awaits c.index.result.now c.in_ok-head.head c.index.ensures c.in_ok-head.ensures)
 
 pub returns-in_err-edges-clause-grows : goal.returns-in_err-edges-clause-grows
 returns-in_err-edges-clause-grows c =

@@ -1,17 +1,26 @@
 use Rattle.std.proofs.Common.{inl, inr}
 use Rattle.std.proofs.lemmas.Result.{on_ok_weaker}
 use Rattle.flux_types.specs.Read.{ty_of}
-use Rattle.flux_types.proofs.Variants.{of_elem, of_seq, of_alt, of_star}
-use Rattle.flux_auto.proofs.Contents.{registered_leaf, registered_as, registered_star, registered_element, registered_seq, registered_alt}
+use Rattle.flux_types.proofs.Variants.{of_elem, of_any, of_seq, of_alt, of_star}
+use Rattle.flux_auto.proofs.Contents.{registered_leaf, registered_as, registered_star, registered_element, registered_any, registered_seq, registered_alt}
 use Rattle.flux_auto.proofs.content.+register.Goals as goal
 
 pub returns-in_ok-put_content-in-Elem-clause-ok : goal.returns-in_ok-put_content-in-Elem-clause-ok
 returns-in_ok-put_content-in-Elem-clause-ok t c =
-    registered_as c.args.table.now c.put_content.new.table _ (ty_of c.args.ty.now) (of_elem c.args.ty.now c.in-Elem.field-0 c.in-Elem.inner c.get-content.result.now c.in-Elem.is c.get-content.ensures)
-    (registered_element c.args.table.now c.register.new.table c.put_content.new.table c.in-Elem.field-0 (ty_of c.get-content.result.now) c.in_ok-put_content-in-Elem.field-0 _ c.in_ok-register-in-Elem.ensures.ok c.in_ok-put_content-in-Elem.ensures.grows c.in_ok-put_content-in-Elem.ensures.ok)
+    let a = c.args.table.now in
+    let b = c.register-in-Elem.new.table in
+    let d = c.put_content.new.table in
+    let inner = c.get-content.result.now in
+    let s = c.in_ok-put_content-in-Elem.field-0 in
+    elim c.in-Elem.is [
+      | inl e ↦ registered_as a d _ (ty_of c.args.ty.now) (of_elem c.args.ty.now e.0 c.in-Elem.inner inner e.1 c.get-content.ensures)
+          (registered_element a b d e.0 (ty_of inner) s _ c.in_ok-register-in-Elem.ensures.ok c.in_ok-put_content-in-Elem.ensures.grows c.in_ok-put_content-in-Elem.ensures.ok)
+      | inr e ↦ registered_as a d _ (ty_of c.args.ty.now) (of_any c.args.ty.now c.in-Elem.inner inner e c.get-content.ensures)
+          (registered_any a b d (ty_of inner) s _ c.in_ok-register-in-Elem.ensures.ok c.in_ok-put_content-in-Elem.ensures.grows c.in_ok-put_content-in-Elem.ensures.ok)
+    ]
 
 pub returns-in-Star-clause-ok : goal.returns-in-Star-clause-ok
-returns-in-Star-clause-ok t c = on_ok_weaker c.register-in-Star.result (λ r. registered_as _ _ _ _ (of_star c.args.ty.now c.in-Star.inner c.get.result.now c.in-Star.is c.get.ensures) (registered_star _ _ _ r)) c.register-in-Star.ensures.ok
+returns-in-Star-clause-ok t c = on_ok_weaker c.register.result (λ r. registered_as _ _ _ _ (of_star c.args.ty.now c.in-Star.inner c.get.result.now c.in-Star.is c.get.ensures) (registered_star _ _ _ r)) c.register.ensures.ok
 
 pub returns-in-Empty-clause-ok : goal.returns-in-Empty-clause-ok
 returns-in-Empty-clause-ok t c = registered_leaf c.args.table.now c.args.ty.now c.requires.even c.in-Empty.is

@@ -9,13 +9,18 @@ use Rattle.flux_auto.proofs.linear.linear.Goals as goal
 
 pub loop-task-init : goal.loop-task-init
 loop-task-init c =
-    runs_begin c.args.defs.now c.args.names.now c.args.table.now c.args.next c.args.ty c.push.new.self.items c.new-edges.result.items c.requires.ground c.requires.ready c.requires.tail
+    runs_begin c.args.defs.now c.args.names.now c.args.table.now c.args.next c.args.ty c.push.new.self.items c.new-edges.result.items c.requires.ground c.requires.ready c.requires.labels c.requires.tail
     (c.in_ok-push.ensures.items ∙ ap (λ l. l ++ Read c.args.ty c.args.next ∷ []) c.new-tasks.ensures.items) c.new-edges.ensures.items
 
 pub read-requires-clause-ready : goal.read-requires-clause-ready
 read-requires-clause-ready c =
     (comes_read c.args.defs.now c.args.names.now c.args.table.now c.args.next (ty_of c.args.ty.now) c.loop-task.table c.loop-task.work.tasks.items c.pop.new.self.items c.loop-task.work.edges.items c.in-Some.task
     c.loop-task.invariant c.in-Some.ensures.items c.in-Read.ty c.in-Read.next c.in-Read.is).ready
+
+pub read-requires-clause-labels : goal.read-requires-clause-labels
+read-requires-clause-labels c =
+    (comes_read c.args.defs.now c.args.names.now c.args.table.now c.args.next (ty_of c.args.ty.now) c.loop-task.table c.loop-task.work.tasks.items c.pop.new.self.items c.loop-task.work.edges.items c.in-Some.task
+    c.loop-task.invariant c.in-Some.ensures.items c.in-Read.ty c.in-Read.next c.in-Read.is).labels
 
 pub read-requires-clause-tail : goal.read-requires-clause-tail
 read-requires-clause-tail c =

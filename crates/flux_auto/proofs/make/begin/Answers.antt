@@ -18,3 +18,6 @@ complete-requires-clause-ground c =
 
 pub complete-requires-clause-older : goal.complete-requires-clause-older
 complete-requires-clause-older c = begins_closed c.args.defs.now c.loop-index.index c.in_ok-table.table c.loop-index.table c.in_ok-table.ensures c.loop-index.invariant
+
+pub returns-clause-labels : goal.returns-clause-labels
+returns-clause-labels c = λ n h. c.loop-index.invariant.labels n (c.in_ok-complete.ensures.labels n h)

@@ -2,7 +2,7 @@ use Rattle.std.proofs.Common.{◌∙◌, sym, subst, arith, length}
 use Rattle.flux_types.specs.Read.{ty_of}
 use Rattle.flux_auto.specs.Built.{FreshFrom, ClosedBelow}
 use Rattle.flux_auto.proofs.Growing.{grows_by}
-use Rattle.flux_auto.proofs.Making.{both_grow, extended_ground, extended_fresh, extended_closed, extended_by, has_end}
+use Rattle.flux_auto.proofs.Making.{both_grow, extended_ground, extended_fresh, extended_closed, extended_labels, extended_by, has_end}
 use Rattle.flux_auto.proofs.make.extend.Goals as goal
 
 pub complete-requires-clause-ground : goal.complete-requires-clause-ground
@@ -48,3 +48,11 @@ returns-clause-grows c =
 
 pub returns-clause-ok : goal.returns-clause-ok
 returns-clause-ok c = extended_by c.args.defs.now c.args.names.now c.len-from.result c.put_content.new.table c.complete.new.table (ty_of c.args.ty.now) c.in_ok-state.state c.in_ok-state.ensures.ok.content c.in_ok-complete.ensures.grows c.in_ok-complete.ensures.ok
+
+pub returns-clause-labels : goal.returns-clause-labels
+returns-clause-labels c =
+    let defs = c.args.defs.now in
+    let names = c.args.names.now in
+    let a = c.args.table.now in
+    extended_labels defs names a c.register.new.table c.put_content.new.table (ty_of c.args.ty.now) c.in_ok-state.state c.requires.complete (has_end defs names a c.requires.complete.ground) c.requires.known c.in_ok-register.ensures.grows c.in_ok-register.ensures.ok c.in_ok-state.ensures.grows c.in_ok-state.ensures.ok
+    c.complete.new.table c.in_ok-complete.ensures.labels

@@ -12,6 +12,6 @@ returns c =
     let at = slice_get_read c.args.rows.now _ c.args.state row refl c.requires.within c.index-rows-state.is in
     let none : is_some c.place_of.result ≡ false = search rules in
     let bare = ap (λ (l : List (Option ℕ)). place l c.args.state) (sym c.deref.ensures.value) ∙ sym c.place_of.ensures ∙ bare_of c.place_of.result none in
-    let is = subst (λ (l : List (Option ℕ)). IsRecipe row l c.in-Some.recipe) c.deref-2.ensures.value c.in-Some.ensures.found in
-    tried_found c.args.rows.now c.args.known.now _ c.args.state row c.in-Some.recipe c.requires.knows c.requires.within at bare is c.in_ok-push.ensures.items
+    let is = subst (λ (l : List (Option ℕ)). IsRecipe row c.args.other l c.in-Some.recipe) c.deref-2.ensures.value c.in-Some.ensures.found in
+    tried_found c.args.rows.now c.args.other c.args.known.now _ c.args.state row c.in-Some.recipe c.requires.knows c.requires.within at bare is c.in_ok-push.ensures.items
     (ap (λ (n : ℕ). set c.args.known.now.places.items c.args.state (Some n)) (c.len-index.ensures ∙ c.args.known.now.recipes.ok.0))

@@ -34,3 +34,9 @@ returns-in-Behind-clause-next c =
     let is = c.in-Behind.is in
     let taken = rw c.of-sign.ensures at (c.behind_tree.ensures c.args.names.now) in
     rw is taken
+
+pub returns-in-Number-clause-next : goal.returns-in-Number-clause-next
+returns-in-Number-clause-next c =
+    let is = c.in-Number.is in
+    let taken = rw c.of-sign.ensures at (c.in_number.ensures c.args.names.now) in
+    rw is taken

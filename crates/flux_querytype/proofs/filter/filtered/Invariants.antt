@@ -10,7 +10,7 @@ abbrev pub invariant-loop-turn : goal.invariant-loop-turn
 invariant-loop-turn l = record {
   place : l.walk.place ≡ l.place;
   waiting : AreToBeUsed l.defs (frames_in l.walk);
-  leads : TurnLeads l.defs (Treated l.defs (keeping l.test)) l.place (ty_of l.fn.ty) (frames_in l.walk) l.turn;
+  leads : TurnLeads l.defs (Treated l.defs l.place (keeping l.test)) l.place (ty_of l.fn.ty) (frames_in l.walk) l.turn;
 }
 
 abbrev pub decreases-loop-turn : goal.decreases-loop-turn

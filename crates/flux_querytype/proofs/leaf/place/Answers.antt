@@ -1,5 +1,5 @@
 use Rattle.std.proofs.Common.{refl, inl, inr}
-use Rattle.flux_querytype.proofs.Queries.{place_of_concat, place_of_other, of_elem, of_lit, of_var, of_let, of_if, of_same, of_child, of_filter, of_for}
+use Rattle.flux_querytype.proofs.Queries.{place_of_concat, place_of_other, of_elem, of_lit, of_var, of_let, of_if, of_same, of_less, of_child, of_filter, of_for}
 use Rattle.flux_querytype.proofs.leaf.place.Goals as goal
 
 pub returns : goal.returns
@@ -21,10 +21,13 @@ returns c =
                 | inr q5 ↦ elim q5 [
                   | inl p ↦ place_of_other x _ s.from (of_same x p.0 p.1 p.0 p.1 s p.2 refl refl) refl
                   | inr q6 ↦ elim q6 [
-                    | inl p ↦ place_of_other x _ s.from (of_child x p.0 s p.1) refl
+                    | inl p ↦ place_of_other x _ s.from (of_less x p.0 p.1 p.0 p.1 s p.2 refl refl) refl
                     | inr q7 ↦ elim q7 [
-                      | inl p ↦ place_of_other x _ s.from (of_filter x p.0 p.0 p.1 s p.2 refl) refl
-                      | inr q8 ↦ place_of_other x _ s.from (of_for x q8.0 q8.1 q8.2 q8.1 q8.2 s q8.3 refl refl) refl
+                      | inl p ↦ place_of_other x _ s.from (of_child x p.0 s p.1) refl
+                      | inr q8 ↦ elim q8 [
+                        | inl p ↦ place_of_other x _ s.from (of_filter x p.0 p.0 p.1 s p.2 refl) refl
+                        | inr q9 ↦ place_of_other x _ s.from (of_for x q9.0 q9.1 q9.2 q9.1 q9.2 s q9.3 refl refl) refl
+                      ]
                     ]
                   ]
                 ]

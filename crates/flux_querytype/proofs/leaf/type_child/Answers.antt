@@ -1,7 +1,7 @@
 use Rattle.flux_types.specs.Read.{ty_of}
 use Rattle.flux_types.proofs.DefsLaws.{known_at_top}
 use Rattle.flux_calculus.specs.Typing.{of_no_child, of_many_child}
-use Rattle.flux_querytype.proofs.Leaves.{content_copied, atom_content, content_within, never_many}
+use Rattle.flux_querytype.proofs.Leaves.{any_content_copied, any_content_within, content_copied, atom_content, content_within, never_many}
 use Rattle.flux_querytype.proofs.leaf.type_child.Goals as goal
 
 pub single-requires : goal.single-requires
@@ -29,3 +29,13 @@ returns-in_ok-copied-in-Elem c =
 pub returns-in_ok-nothing-in-Atom : goal.returns-in_ok-nothing-in-Atom
 returns-in_ok-nothing-in-Atom c =
     atom_content c.args.defs.now c.args.gamma.now c.args.span.now c.args.var.now c.in_ok-nothing-in-Atom.field-0.ty.value c.in-Some-single.one.now c.in-Atom.field-0 (ty_of c.in-Some.ty.now) c.in-Some.ensures.some c.in-Some-single.ensures.found c.in-Atom.is c.in_ok-nothing-in-Atom.ensures
+
+pub copied-requires-in-AnyElem : goal.copied-requires-in-AnyElem
+copied-requires-in-AnyElem c =
+    let usable = c.requires.usable c.args.var.now (ty_of c.in-Some.ty.now) c.in-Some.ensures.some in
+    any_content_within c.args.defs.now (ty_of c.in-Some.ty.now) c.in-Some-single.one.now c.get-in-AnyElem.result.now c.in-AnyElem.content c.requires.defs c.in-Some-single.ensures.found usable.limits c.in-AnyElem.is c.get-in-AnyElem.ensures
+
+pub returns-in_ok-copied-in-AnyElem : goal.returns-in_ok-copied-in-AnyElem
+returns-in_ok-copied-in-AnyElem c =
+    let made = c.in_ok-copied-in-AnyElem in
+    any_content_copied c.args.defs.now c.args.gamma.now c.args.span.now c.args.var.now made.field-0.ty.value c.in-Some-single.one.now c.get-in-AnyElem.result.now c.in-AnyElem.content (ty_of c.in-Some.ty.now) c.in-Some.ensures.some c.in-Some-single.ensures.found c.in-AnyElem.is c.get-in-AnyElem.ensures made.ensures

@@ -5,6 +5,7 @@ use Rattle.flux_types.specs.Read.{ty_of}
 use Rattle.flux_calculus.specs.Typing.{returning}
 use Rattle.flux_core.specs.Walk.{frames_in, AreToBeUsed}
 use Rattle.flux_core.proofs.TurnLaws.{TurnLeads, turn_work}
+use Rattle.flux_core.proofs.WalkLabels.{TurnLabels}
 use Rattle.flux_querytype.specs.Answers.{Leaves}
 use Rattle.flux_querytype.proofs.MapLaws.{Treated}
 use Rattle.flux_querytype.proofs.Weights.{weight, weights}
@@ -34,6 +35,12 @@ decreases-type_condition g l = 2 * (weight (query_of l.condition.now)) + 1
 abbrev pub decreases-type_alike : goal.decreases-type_alike
 decreases-type_alike g l = 2 * (weight (query_of l.left.now) + weight (query_of l.right.now)) + 1
 
+abbrev pub decreases-type_less : goal.decreases-type_less
+decreases-type_less g l = 2 * (weight (query_of l.left.now) + weight (query_of l.right.now)) + 1
+
+abbrev pub decreases-type_number : goal.decreases-type_number
+decreases-type_number g l = 2 * (weight (query_of l.number.now)) + 1
+
 abbrev pub decreases-type_filter : goal.decreases-type_filter
 decreases-type_filter g l = 2 * (weight (query_of l.from.now)) + 1
 
@@ -45,8 +52,8 @@ decreases-type_trees g l = 2 * (weight (query_of l.step.now.body.now)) + 2
 
 abbrev pub invariant-type_all-loop-query : goal.invariant-type_all-loop-query
 invariant-type_all-loop-query g l = let D = g.D.Decider in record {
-  left : Leaves D.definitions D.keeps D.known l.fn.decider l.decider l.fn.gamma l.gamma;
-  behind : Behind (D.definitions l.fn.decider) l.fn.gamma l.span l.queries l.query-iterator.iter.rest.now l.outcome;
+  left : Leaves D.definitions D.unnamed D.keeps D.known l.fn.decider l.decider l.fn.gamma l.gamma;
+  behind : Behind (D.definitions l.fn.decider, D.unnamed l.fn.decider) l.fn.gamma l.span l.queries l.query-iterator.iter.rest.now l.outcome;
 }
 
 abbrev pub invariant-type_trees-loop-turn : goal.invariant-type_trees-loop-turn
@@ -54,10 +61,11 @@ invariant-type_trees-loop-turn g l =
     let D = g.D.Decider in
     let defs = D.definitions l.fn.decider in
     record {
-      left : Leaves D.definitions D.keeps D.known l.fn.decider l.decider l.fn.gamma l.gamma;
+      left : Leaves D.definitions D.unnamed D.keeps D.known l.fn.decider l.decider l.fn.gamma l.gamma;
       place : l.walk.place ≡ l.step.span.from;
       waiting : AreToBeUsed defs (frames_in l.walk);
-      leads : TurnLeads defs (Treated defs (returning l.fn.gamma l.step.var (query_of l.step.body.now))) l.step.span.from (ty_of l.fn.ty) (frames_in l.walk) l.turn;
+      labels : TurnLabels (λ m. ¬ (m ≡ D.unnamed l.fn.decider)) (frames_in l.walk) l.turn;
+      leads : TurnLeads defs (Treated defs l.step.span.from (returning l.fn.gamma l.step.var (query_of l.step.body.now))) l.step.span.from (ty_of l.fn.ty) (frames_in l.walk) l.turn;
     }
 
 abbrev pub decreases-type_trees-loop-turn : goal.decreases-type_trees-loop-turn

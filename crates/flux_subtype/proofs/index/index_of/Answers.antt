@@ -5,7 +5,7 @@ use Rattle.flux_subtype.proofs.Turning.{edges_at}
 use Rattle.flux_subtype.proofs.index.index_of.Goals as goal
 
 pub loop-state-init : goal.loop-state-init
-loop-state-init c = no_states _ _ c.new.ensures.items c.new-2.ensures.items c.new-3.ensures.items
+loop-state-init c = no_states _ _ c.new.ensures.items c.new-2.ensures.items c.new-3.ensures.items c.new-4.ensures.items c.new-5.ensures.items
 
 pub loop-state-preserved : goal.loop-state-preserved
 loop-state-preserved c =

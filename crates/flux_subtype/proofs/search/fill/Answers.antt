@@ -4,7 +4,7 @@ use Rattle.flux_subtype.proofs.Turning.{no_fill, next_fill, moves_by-grows, with
 use Rattle.flux_subtype.proofs.search.fill.Goals as goal
 
 pub loop-rest-init : goal.loop-rest-init
-loop-rest-init c = no_fill _ _ _ _ c.requires.kept
+loop-rest-init c = no_fill _ _ _ _ _ c.requires.kept
 
 pub put-requires-clause-kept : goal.put-requires-clause-kept
 put-requires-clause-kept c = c.loop-rest.invariant.kept
@@ -16,9 +16,9 @@ pub put-requires-clause-rest : goal.put-requires-clause-rest
 put-requires-clause-rest c = within-grows _ _ _ c.loop-rest.invariant.grows (omega arith)
 
 pub loop-rest-preserved : goal.loop-rest-preserved
-loop-rest-preserved c = next_fill _ _ _ _ _ _ _ c.loop-rest.invariant (omega arith) c.in_ok-place.ensures
+loop-rest-preserved c = next_fill _ _ _ _ _ _ _ _ c.loop-rest.invariant (omega arith) c.in_ok-place.ensures
 
 pub returns : goal.returns
 returns c =
     let e : c.loop-rest.rest ≡ c.args.to = omega (arith, c.loop-rest.auto.rest-end) in
-    subst (λ j. Fills c.args.part.now c.args.kept.now.items c.loop-rest.kept.items c.args.tree.now.moves.items c.args.from j) e c.loop-rest.invariant
+    subst (λ j. Fills c.args.part.now c.args.kept.now.items c.loop-rest.kept.items c.args.tree.now.head c.args.tree.now.moves.items c.args.from j) e c.loop-rest.invariant

@@ -7,7 +7,7 @@ use Rattle.flux_subtype.proofs.search.put.Goals as goal
 pub returns-then-is_silent : goal.returns-then-is_silent
 returns-then-is_silent c =
     let q = set_at-read c.args.kept.now.items c.args.rest c.index.result.now c.index.result.now c.index.result.now.set c.requires.rest c.index.ensures refl in
-    puts_silent _ _ _ _ c.requires.kept
+    puts_silent _ _ _ _ _ c.requires.kept
     (subst (λ p. IsSilent c.args.tree.now.moves.items p) q (subst (λ ms. IsSilent ms c.index.result.now.set) c.deref.ensures.value (c.if-is_silent.ensures refl)))
 
 pub returns : goal.returns

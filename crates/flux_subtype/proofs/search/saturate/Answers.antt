@@ -1,4 +1,4 @@
-use Rattle.std.proofs.Common.{◌≡◌, length, arith}
+use Rattle.std.proofs.Common.{◌≡◌, length, inl, inr, arith}
 use Rattle.flux_subtype.proofs.Items.{grows-length}
 use Rattle.flux_subtype.proofs.Many.{few_kept}
 use Rattle.flux_subtype.proofs.Searching.{next_seen, answered_none}
@@ -10,10 +10,14 @@ loop-done-smaller c = omega (arith, few_kept c.args.part.now c.loop-done.kept.it
 pub loop-done-preserved : goal.loop-done-preserved
 loop-done-preserved c = record {
   so_far = c.in_ok-turn.ensures.done;
+  labels = λ n h. elim (c.in_ok-turn.ensures.labels n h) [ inl o ↦ c.loop-done.invariant.labels n o | inr x ↦ inr x ];
   behind = omega arith;
   there = (let le = grows-length c.loop-done.kept.items c.turn.new.kept.items c.in_ok-turn.ensures.grows in omega (arith, le, c.len-seen.ensures));
   none = next_seen c.loop-done.kept.items c.deref.result.now c.turn.new.kept.items c.args.left c.args.right c.loop-done.seen c.len-seen.result c.deref.ensures.value (let e : c.len-seen.result ≡ length c.loop-done.kept.items = omega (arith, c.len-seen.ensures, c.loop-done.kept.ok) in e) c.in_ok-turn.ensures.grows c.loop-done.invariant.none c.in_default.ensures.none;
 }
 
-pub returns : goal.returns
-returns c = answered_none _ _ _ _ _ _ _ c.loop-done.invariant.so_far (omega arith) c.loop-done.invariant.behind c.loop-done.invariant.none
+pub returns-clause-found : goal.returns-clause-found
+returns-clause-found c = answered_none _ _ _ _ _ _ _ c.loop-done.invariant.so_far (omega arith) c.loop-done.invariant.behind c.loop-done.invariant.none
+
+pub loop-done-init : goal.loop-done-init
+loop-done-init c = record { so_far = c.requires.begun; behind = omega arith; there = omega arith; none = λ i l. absurd (omega (arith, l)); labels = λ n h. inl h }

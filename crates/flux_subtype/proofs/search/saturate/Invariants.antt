@@ -1,5 +1,5 @@
 use Rattle.std.proofs.Common.{ℕ, ◌<◌, ◌≤◌, ◌^◌, ◌-◌, length}
-use Rattle.flux_subtype.specs.Search.{IsDone, IsAgainst}
+use Rattle.flux_subtype.specs.Search.{IsDone, LabelsGrow, IsAgainst}
 use Rattle.flux_subtype.proofs.search.saturate.Given as goal
 
 abbrev pub invariant-loop-done : goal.invariant-loop-done
@@ -8,6 +8,7 @@ invariant-loop-done l = record {
   behind : l.done ≤ l.seen;
   there : l.seen ≤ length l.kept.items;
   none : (i : ℕ) → i < l.seen → IsAgainst l.kept.items l.left l.right i → ⊥;
+  labels : LabelsGrow l.groups l.other l.fn.kept.items l.fn.trees.items l.kept.items l.trees.items;
 }
 
 abbrev pub decreases-loop-done : goal.decreases-loop-done

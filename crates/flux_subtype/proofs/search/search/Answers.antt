@@ -1,17 +1,29 @@
-use Rattle.std.proofs.Common.{sym, subst, refl}
-use Rattle.flux_subtype.specs.Index.{IndexesGroups}
-use Rattle.flux_subtype.proofs.IndexLaws.{indexed_groups}
-use Rattle.flux_subtype.proofs.Searching.{begun, found_answers}
+use Rattle.std.proofs.Common.{List, refl, sym, subst}
+use Rattle.flux_subtype.specs.declared.index.Group.{Group}
+use Rattle.flux_auto.specs.declared.edge.Edge.TheVariants.{Elem}
+use Rattle.flux_subtype.specs.Index.{IndexesElements}
+use Rattle.flux_subtype.specs.Search.{LabelsGrow}
+use Rattle.flux_subtype.proofs.IndexLaws.{indexed_elements}
+use Rattle.flux_subtype.proofs.Searching.{begun, none_used, found_answers}
 use Rattle.flux_subtype.proofs.search.search.Goals as goal
 
 pub saturate-requires-clause-begun : goal.saturate-requires-clause-begun
 saturate-requires-clause-begun c =
-    begun c.in_ok-part.part c.in_ok-bools.field-0 _ _ _ _ _ _ _ _ c.in_ok-bools.ensures refl refl
-    c.requires.nothing c.new-trees.ensures.items c.in_ok-add_tree.ensures c.in_ok-add_tree-2.ensures c.in_ok-nil_profile.ensures.profile c.in_ok-nil_profile.ensures.long c.in_ok-keep.ensures
+    begun c.in_ok-part.part c.in_ok-bools.field-0 _ _ _ _ _ _ _ _ _ _ c.in_ok-bools.ensures refl refl refl
+    c.requires.nothing c.new-trees.ensures.items c.in_ok-add_tree.ensures c.in_ok-add_tree-2.ensures c.in_ok-add_tree-3.ensures c.in_ok-nil_profile.ensures.profile c.in_ok-nil_profile.ensures.long c.in_ok-keep.ensures
 
-pub saturate-requires-clause-groups : goal.saturate-requires-clause-groups
-saturate-requires-clause-groups c =
-    subst (IndexesGroups c.in_ok-part.part) (sym c.deref.ensures.value) (indexed_groups _ c.in_ok-bools.field-0 c.in_ok-bools.ensures)
+pub saturate-requires-clause-elements : goal.saturate-requires-clause-elements
+saturate-requires-clause-elements c =
+    subst (λ (gs : List Group). IndexesElements c.in_ok-part.part gs c.deref-2.result.now) (sym c.deref.ensures.value)
+    (subst (IndexesElements c.in_ok-part.part c.in_ok-bools.field-0.groups.items) (sym c.deref-2.ensures.value) (indexed_elements _ c.in_ok-bools.field-0 c.in_ok-bools.ensures))
+
+pub saturate-requires-clause-lacks : goal.saturate-requires-clause-lacks
+saturate-requires-clause-lacks c = λ s d r e. c.requires.lacks s d r (c.in_ok-part.ensures.edges s (Elem c.args.other d r) e)
 
 pub returns : goal.returns
-returns c = found_answers c.args.auto.now.states c.in_ok-part.part _ _ _ _ c.in_ok-part.ensures c.in_ok-found.ensures
+returns c =
+    let elements = indexed_elements _ c.in_ok-bools.field-0 c.in_ok-bools.ensures in
+    let labels = subst (λ (gs : List Group). LabelsGrow gs c.args.other c.keep.new.kept.items c.add_tree-3.new.trees.items c.saturate.new.kept.items c.saturate.new.trees.items) c.deref.ensures.value c.in_ok-found.ensures.labels in
+    found_answers c.args.auto.now.states c.in_ok-part.part _ _ c.args.other _ _ _ _ _ _ _ c.in_ok-part.ensures elements
+    (none_used _ _ _ _ _ _ _ _ _ _ c.requires.nothing c.new-trees.ensures.items c.in_ok-add_tree.ensures c.in_ok-add_tree-2.ensures c.in_ok-add_tree-3.ensures c.in_ok-keep.ensures)
+    labels c.in_ok-found.ensures.found

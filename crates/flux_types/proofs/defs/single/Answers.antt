@@ -1,8 +1,8 @@
 use Rattle.std.proofs.Common.{◌<◌, refl, sym, subst, inl, inr}
 use Rattle.flux_schema.specs.Ty.{named}
 use Rattle.flux_types.specs.Read.{ty_of}
-use Rattle.flux_types.proofs.Variants.{of_named, of_atom, of_elem}
-use Rattle.flux_types.proofs.DefsLaws.{Follows, follows_next, known_at_top, steps, steps-fall, self_atom, self_element}
+use Rattle.flux_types.proofs.Variants.{of_named, of_atom, of_elem, of_any}
+use Rattle.flux_types.proofs.DefsLaws.{Follows, follows_next, known_at_top, steps, steps-fall, self_atom, self_element, self_any}
 use Rattle.flux_types.proofs.defs.single.Goals as goal
 
 pub loop-ty-smaller : goal.loop-ty-smaller
@@ -26,5 +26,6 @@ returns-in-Atom c =
     let ty = ty_of c.loop-ty.ty.now in
     elim c.in-Atom.is [
       | inl p ↦ record { found = c.loop-ty.invariant.0.there ty (self_atom c.args.defs.now ty p.0 (of_atom c.loop-ty.ty.now p.0 p.1)); none = tt }
-      | inr p ↦ record { found = c.loop-ty.invariant.0.there ty (self_element c.args.defs.now ty p.0 (ty_of p.1) (of_elem c.loop-ty.ty.now p.0 p.1 p.1 p.2 refl)); none = tt }
+      | inr (inl p) ↦ record { found = c.loop-ty.invariant.0.there ty (self_element c.args.defs.now ty p.0 (ty_of p.1) (of_elem c.loop-ty.ty.now p.0 p.1 p.1 p.2 refl)); none = tt }
+      | inr (inr p) ↦ record { found = c.loop-ty.invariant.0.there ty (self_any c.args.defs.now ty (ty_of p.0) (of_any c.loop-ty.ty.now p.0 p.0 p.1 refl)); none = tt }
     ]

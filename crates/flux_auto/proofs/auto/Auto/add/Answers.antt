@@ -22,7 +22,7 @@ extended c = subst (λ (names : List Bool). Extended c.self.inside.defs names c.
 pub invariant_of-self-2 : goal.invariant_of-self-2
 invariant_of-self-2 c =
     right_more c.self.inside.defs c.self.inside.names.items _ c.self.inside.table c.extend_or_stay.new.table c.self.inside.added.items c.push.new.self.items (record { ty = c.in_ok-copied.copied; state = c.in_ok-state.state }) (ty_of c.args.ty.now)
-    c.self.invariant c.in_ok-state.ensures.grows (extended c) (ap ty_of c.in_ok-copied.ensures) (pushed c)
+    c.self.invariant c.in_ok-state.ensures.grows (extended c) c.in_ok-state.ensures.labels (ap ty_of c.in_ok-copied.ensures) (pushed c)
 
 pub returns-clause-states : goal.returns-clause-states
 returns-clause-states c =
