@@ -892,14 +892,12 @@ fn comparisons(rt: HostRuntime) -> Result<(), Fail> {
     assert_typed(&rt, alloc, &defs, other, &none, &numbers, &[TRUTH])?;
     let bound = [Ask::Less, Ask::Seen(0), Ask::Number];
     assert_typed(&rt, alloc, &defs, other, &[NUMBER], &bound, &[TRUTH])?;
-    let texts = [
-        [Ask::Less, Ask::Text, Ask::Number],
-        [Ask::Less, Ask::Number, Ask::Text],
-    ];
-    for asks in &texts {
-        let refused = outcome(&rt, alloc, &defs, other, &none, asks)?;
-        assert!(rt; shows_no_number(&refused, 7));
-    }
+    let left = [Ask::Less, Ask::Text, Ask::Number];
+    let refused = outcome(&rt, alloc, &defs, other, &none, &left)?;
+    assert!(rt; shows_no_number(&refused, 7));
+    let right = [Ask::Less, Ask::Number, Ask::Text];
+    let refused = outcome(&rt, alloc, &defs, other, &none, &right)?;
+    assert!(rt; shows_no_number(&refused, 7));
     let unbound = [Ask::Less, Ask::Seen(1), Ask::Text];
     let refused = outcome(&rt, alloc, &defs, other, &none, &unbound)?;
     assert!(rt; matches!(refused, Err(KindFault::UnknownVar { place: 0 })));
