@@ -386,31 +386,35 @@ fn authors_inside(alloc: Global, author: Name) -> Result<Query, AllocError> {
     each(alloc, Var::Made(1), seen(Var::Made(0), 0), body)
 }
 
+// The type of a query, tidied, where the variable `Made(0)` is of a type and no name is defined.
+fn tidied(
+    rt: &impl Abort,
+    alloc: Global,
+    bound: Ty,
+    query: &Query,
+    other: Name,
+) -> Result<Ty, Fail> {
+    let defs = no_definitions(alloc)?;
+    let mut gamma = none_bound(alloc, &defs, other);
+    bind(rt, &mut gamma, bound, &defs, other)?;
+    let outcome = typed(rt, alloc, &mut gamma, query, &defs, other);
+    assert!(rt; outcome.is_ok());
+    Ok(tidy(alloc, &outcome.unwrap_or(Ty::Empty))?)
+}
+
 #[test]
 fn the_authors_of_a_book(rt: HostRuntime) -> Result<(), Fail> {
     let alloc = rt.alloc();
-    let defs = no_definitions(alloc)?;
     let mut names = Names::new(alloc);
     let label = name(&rt, &mut names, "book")?;
     let title = name(&rt, &mut names, "title")?;
     let author = name(&rt, &mut names, "author")?;
     let other = name(&rt, &mut names, "other")?;
-    let mut gamma = none_bound(alloc, &defs, other);
-    bind(
-        &rt,
-        &mut gamma,
-        book(alloc, &[label, title, author])?,
-        &defs,
-        other,
-    )?;
+    let bound = book(alloc, &[label, title, author])?;
     let query = authors_inside(alloc, author)?;
-    match typed(&rt, alloc, &mut gamma, &query, &defs, other) {
-        Ok(ty) => {
-            let ty = tidy(alloc, &ty)?;
-            assert!(rt; same(&ty, &authors(alloc, author)?));
-        }
-        Err(_) => assert!(rt; false),
-    }
+    let found = tidied(&rt, alloc, bound, &query, other)?;
+    let wanted = authors(alloc, author)?;
+    assert!(rt; same(&found, &wanted));
     Ok(())
 }
 
@@ -882,6 +886,19 @@ fn shows_no_number(outcome: &Result<Ty, KindFault>, at: u32) -> bool {
     }
 }
 
+// Asserts that the side of a comparison at 7 isn't a number.
+fn assert_no_number(
+    rt: &impl Abort,
+    alloc: Global,
+    defs: &Defs,
+    other: Name,
+    asks: &[Ask],
+) -> Result<(), Fail> {
+    let refused = outcome(rt, alloc, defs, other, &[Sign::Nothing], asks)?;
+    assert!(rt; shows_no_number(&refused, 7));
+    Ok(())
+}
+
 #[test]
 fn comparisons(rt: HostRuntime) -> Result<(), Fail> {
     let alloc = rt.alloc();
@@ -893,13 +910,18 @@ fn comparisons(rt: HostRuntime) -> Result<(), Fail> {
     let bound = [Ask::Less, Ask::Seen(0), Ask::Number];
     assert_typed(&rt, alloc, &defs, other, &[NUMBER], &bound, &[TRUTH])?;
     let left = [Ask::Less, Ask::Text, Ask::Number];
-    let refused = outcome(&rt, alloc, &defs, other, &none, &left)?;
-    assert!(rt; shows_no_number(&refused, 7));
+    assert_no_number(&rt, alloc, &defs, other, &left)?;
     let right = [Ask::Less, Ask::Number, Ask::Text];
-    let refused = outcome(&rt, alloc, &defs, other, &none, &right)?;
-    assert!(rt; shows_no_number(&refused, 7));
+    assert_no_number(&rt, alloc, &defs, other, &right)
+}
+
+#[test]
+fn the_left_side_of_a_comparison_first(rt: HostRuntime) -> Result<(), Fail> {
+    let alloc = rt.alloc();
+    let defs = no_definitions(alloc)?;
+    let other = lone_label(&rt, alloc)?;
     let unbound = [Ask::Less, Ask::Seen(1), Ask::Text];
-    let refused = outcome(&rt, alloc, &defs, other, &none, &unbound)?;
+    let refused = outcome(&rt, alloc, &defs, other, &[Sign::Nothing], &unbound)?;
     assert!(rt; matches!(refused, Err(KindFault::UnknownVar { place: 0 })));
     Ok(())
 }
@@ -968,19 +990,20 @@ fn many_queries(rt: HostRuntime) -> Result<(), Fail> {
     let defs = no_definitions(alloc)?;
     let other = lone_label(&rt, alloc)?;
     let mut gamma = none_bound(alloc, &defs, other);
-    match typed(&rt, alloc, &mut gamma, &literals(alloc, 400)?, &defs, other) {
-        Ok(ty) => assert_eq!(rt; size(&ty), 799),
-        Err(_) => assert!(rt; false),
-    }
+    let query = literals(alloc, 400)?;
+    let outcome = typed(&rt, alloc, &mut gamma, &query, &defs, other);
+    assert_eq!(rt; size(&outcome.unwrap_or(Ty::Empty)), 799);
+    Ok(())
+}
+
+#[test]
+fn too_many_queries(rt: HostRuntime) -> Result<(), Fail> {
+    let alloc = rt.alloc();
+    let defs = no_definitions(alloc)?;
+    let other = lone_label(&rt, alloc)?;
     let mut gamma = none_bound(alloc, &defs, other);
-    let outcome = typed(
-        &rt,
-        alloc,
-        &mut gamma,
-        &literals(alloc, 20_000)?,
-        &defs,
-        other,
-    );
+    let query = literals(alloc, 20_000)?;
+    let outcome = typed(&rt, alloc, &mut gamma, &query, &defs, other);
     assert!(rt; matches!(outcome, Err(KindFault::TypeTooLarge { place: 5 })));
     Ok(())
 }

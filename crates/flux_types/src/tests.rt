@@ -185,30 +185,64 @@ fn text_of_sequences(rt: HostRuntime) -> Result<(), Fail> {
     assert_text(&rt, alloc, &names, made, "a[],b[],c[]")
 }
 
+// any[a[int]|'any'[]]
+fn any_choice(alloc: Global, names: &Names, label: Name, word: Name) -> Result<Ty, AllocError>
+    requires label { label < length names.now }
+    requires word { word < length names.now }
+    ensures { IfOk result (λ made. IsWritable (length names.now) [] (ty_of made)) }
+{
+    let left = element(alloc, names, label, Ty::Atom(AtomKind::Int))?;
+    let right = leaf(alloc, names, word)?;
+    let made = alt(alloc, names, left, right)?;
+    any(alloc, names, made)
+}
+
+fn any_leaf(alloc: Global, names: &Names, label: Name) -> Result<Ty, AllocError>
+    requires { label < length names.now }
+    ensures { IfOk result (λ made. IsWritable (length names.now) [] (ty_of made)) }
+{
+    let inner = leaf(alloc, names, label)?;
+    any(alloc, names, inner)
+}
+
+// any[(),()]
+fn any_empty(alloc: Global, names: &Names) -> Result<Ty, AllocError>
+    ensures { IfOk result (λ made. IsWritable (length names.now) [] (ty_of made)) }
+{
+    let inner = seq(alloc, names, Ty::Empty, Ty::Empty)?;
+    any(alloc, names, inner)
+}
+
 #[test]
 fn text_of_elements_of_any_label(rt: HostRuntime) -> Result<(), Fail> {
     let alloc = rt.alloc();
     let mut names = Names::new(alloc);
     let a = name(&mut names, "a")?;
     let word = name(&mut names, "any")?;
-    let number = name(&mut names, "int")?;
-    // any[a[int]|'any'[]]
-    let left = element(alloc, &names, a, Ty::Atom(AtomKind::Int))?;
-    let right = leaf(alloc, &names, word)?;
-    let made = alt(alloc, &names, left, right)?;
-    let made = any(alloc, &names, made)?;
+    let made = any_choice(alloc, &names, a, word)?;
     assert_text(&rt, alloc, &names, made, "any[a[int]|'any'[]]")?;
-    let made = element(alloc, &names, number, Ty::Atom(AtomKind::Int))?;
-    assert_text(&rt, alloc, &names, made, "int[int]")?;
-    // any[(),()]
-    let made = seq(alloc, &names, Ty::Empty, Ty::Empty)?;
-    let made = any(alloc, &names, made)?;
-    assert_text(&rt, alloc, &names, made, "any[]")?;
-    // any[a[]]|any[a[]]
-    let left = any(alloc, &names, leaf(alloc, &names, a)?)?;
-    let right = any(alloc, &names, leaf(alloc, &names, a)?)?;
+    let made = any_empty(alloc, &names)?;
+    assert_text(&rt, alloc, &names, made, "any[]")
+}
+
+#[test]
+fn text_of_a_choice_of_one_type(rt: HostRuntime) -> Result<(), Fail> {
+    let alloc = rt.alloc();
+    let mut names = Names::new(alloc);
+    let a = name(&mut names, "a")?;
+    let left = any_leaf(alloc, &names, a)?;
+    let right = any_leaf(alloc, &names, a)?;
     let made = alt(alloc, &names, left, right)?;
     assert_text(&rt, alloc, &names, made, "any[a[]]")
+}
+
+#[test]
+fn text_of_a_label_that_is_a_kind(rt: HostRuntime) -> Result<(), Fail> {
+    let alloc = rt.alloc();
+    let mut names = Names::new(alloc);
+    let number = name(&mut names, "int")?;
+    let made = element(alloc, &names, number, Ty::Atom(AtomKind::Int))?;
+    assert_text(&rt, alloc, &names, made, "int[int]")
 }
 
 #[tactic(auto, using(crate::proofs::KeptLaws::counts))]
@@ -270,21 +304,26 @@ fn under_element(alloc: Global, label: Name) -> Result<Ty, AllocError>
     Ok(Ty::Star(Boxed::new(alloc, inner)?))
 }
 
+// Asserts that a name that stands for the body reaches itself without an element.
+fn assert_unguarded(rt: &impl Abort, alloc: Global, label: Name, body: Ty) -> Result<(), Fail>
+    requires { NamesBelow 1 (ty_of body) }
+{
+    let closed = close_one(rt, alloc, label, body)?;
+    assert!(rt; matches!(closed, Err(DefFault::Unguarded { index: 0 })));
+    Ok(())
+}
+
 #[test]
 fn a_name_that_reaches_itself(rt: HostRuntime) -> Result<(), Fail> {
     let alloc = rt.alloc();
     let mut names = Names::new(alloc);
     let label = name(&mut names, "a")?;
     // X = X,a[]
-    let closed = close_one(&rt, alloc, label, before_element(alloc, label)?)?;
-    assert!(rt; matches!(closed, Err(DefFault::Unguarded { index: 0 })));
+    assert_unguarded(&rt, alloc, label, before_element(alloc, label)?)?;
     // X = X,any[]
-    let closed = close_one(&rt, alloc, label, before_any(alloc)?)?;
-    assert!(rt; matches!(closed, Err(DefFault::Unguarded { index: 0 })));
+    assert_unguarded(&rt, alloc, label, before_any(alloc)?)?;
     // X = ()|X*
-    let closed = close_one(&rt, alloc, label, repeated_or_empty(alloc)?)?;
-    assert!(rt; matches!(closed, Err(DefFault::Unguarded { index: 0 })));
-    Ok(())
+    assert_unguarded(&rt, alloc, label, repeated_or_empty(alloc)?)
 }
 
 #[test]
@@ -295,6 +334,14 @@ fn a_name_under_an_element(rt: HostRuntime) -> Result<(), Fail> {
     // X = a[X]*
     let defs = close_one(&rt, alloc, label, under_element(alloc, label)?)??;
     assert_eq!(rt; defs.len(), 1);
+    Ok(())
+}
+
+#[test]
+fn a_name_under_an_element_of_any_label(rt: HostRuntime) -> Result<(), Fail> {
+    let alloc = rt.alloc();
+    let mut names = Names::new(alloc);
+    let label = name(&mut names, "a")?;
     // X = any[X]
     let defs = close_one(&rt, alloc, label, under_any(alloc)?)??;
     assert_eq!(rt; defs.len(), 1);
