@@ -103,7 +103,7 @@ fresh_absent texts text is = by (list_any (bytes_eq text) texts) refl
     by true e = absurd (is.lacked (any-contains texts text e))
     by false e = e
 
-last_at : (texts : List (List ℕ)) (text : List ℕ) → slice_get (texts ++ text ∷ []) (length texts) ≡ Some text
+pub last_at : (texts : List (List ℕ)) (text : List ℕ) → slice_get (texts ++ text ∷ []) (length texts) ≡ Some text
 last_at [] text = refl
 last_at (t ∷ texts) text = last_at texts text
 

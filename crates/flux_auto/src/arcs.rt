@@ -8,8 +8,8 @@ use crate::table::Row;
 use flux_atom::{AtomKind, Name};
 use std::alloc::{AllocError, Global};
 
-// An edge by an element of a known label, or of any: the state that it leaves, that of the content, and that
-// of the trees after the element.
+// An edge by an element of a known label, or of any: the state that it leaves, that of the content,
+// and that of the trees after the element.
 #[derive(Clone, Copy)]
 pub(crate) struct Arc {
     pub(crate) source: u64,
@@ -98,7 +98,8 @@ fn add_arc(arcs: &mut Arcs, label: Name, arc: Arc) -> Result<(), AllocError>
 }
 
 fn add_any(arcs: &mut Arcs, arc: Arc) -> Result<(), AllocError>
-    ensures { OnOk result (Adds arcs.old arcs.new ((arc.source, AnyElem arc.content arc.next) ∷ [])) }
+    ensures { OnOk result
+        (Adds arcs.old arcs.new ((arc.source, AnyElem arc.content arc.next) ∷ [])) }
 {
     arcs.any_label.push(arc)?;
     Ok(())

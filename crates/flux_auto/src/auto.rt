@@ -121,8 +121,9 @@ impl Auto {
     /// Whether a forest is a member of a type that was added. First it sorts the edges by what they
     /// go by, which takes the time of going over them and the names up to the last label once.
     /// Then each node takes the time of filling a truth value for each state, and of going over the
-    /// edges of its label and of any label alone, or of its kind of atom. The memory is that of the edges, and a
-    /// truth value for each state and each element that is open at once. It doesn't recurse.
+    /// edges of its label and of any label alone, or of its kind of atom. The memory is that of the
+    /// edges, and a truth value for each state and each element that is open at once. It doesn't
+    /// recurse.
     pub fn member(&self, start: Start, view: View<'_>) -> Result<bool, AllocError>
         requires { start < length self.now.types }
         ensures { IfOk result (λ found. IfSome (slice_get self.now.types start)
@@ -135,9 +136,10 @@ impl Auto {
         Ok(takes(&set, self.added[start.0].state))
     }
 
-    /// A member of a type that was added, if it has one. An element of any label has the label that
-    /// the automaton was made with, a number is 0, a truth value false and a text empty. Where names double what they stand for
-    /// at each step, as `X=a[Y],a[Y]` and `Y=b[Z],b[Z]`, so do the members, and memory is wanting.
+    /// A member of a type that was added, if it has one. An element of any label has the label
+    /// that the automaton was made with, a number is 0, a truth value false and a text empty. Where
+    /// names double what they stand for at each step, as `X=a[Y],a[Y]` and `Y=b[Z],b[Z]`, so do the
+    /// members, and memory is wanting.
     pub fn some(&self, start: Start) -> Result<Option<Forest>, AllocError>
         requires { start < length self.now.types }
         ensures { IfOk result (λ found. IfSome (slice_get self.now.types start)

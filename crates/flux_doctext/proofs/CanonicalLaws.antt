@@ -1,13 +1,10 @@
 -- The canonical text spells its forest, and no other.
 use Rattle.std.proofs.Common.{◌≡◌, ◌≢◌, ℕ, List, [], ◌++◌, codes, refl, sym, subst, append_assoc}
 use Rattle.std.proofs.lemmas.List.{append-nil}
-use Rattle.std.specs.List.{flat_map}
 use Rattle.flux_atom.specs.declared.atom.Atom.{Atom}
-use Rattle.flux_atom.specs.declared.atom.Atom.TheVariants.{Bool as Truth, Text, Int as Number}
 use Rattle.flux_atom.specs.Names.{name_text, IsTable}
-use Rattle.flux_atom.specs.Literal.{escaped, literal}
-use Rattle.flux_atom.specs.Spelling.{IsLiteral}
-use Rattle.flux_atom.proofs.TextLaws.{canonical_items}
+use Rattle.flux_atom.specs.Literal.{literal}
+use Rattle.flux_atom.proofs.StandingLiterals.{canonical_literal}
 use Rattle.flux_trees.specs.Hedge.{Plain, nil, elem, leaf, join}
 use Rattle.flux_trees.proofs.HedgeLaws.{join-nil}
 use Rattle.flux_trees.specs.Each.{EachLabel, EachAtom}
@@ -18,15 +15,10 @@ use Rattle.flux_doctext.proofs.ReadLaws.{spelled_once}
 use Rattle.flux_doctext.proofs.SpelledLaws.{no_space}
 use Rattle.flux_doctext.proofs.TextLaws.{NamesLabel-label, NamesLabel-found}
 
-literal_spelled : (x : Atom) → IsProper x → IsLiteral (literal x) x
-literal_spelled (Truth b) proper = refl
-literal_spelled (Text t) proper = (flat_map escaped t, canonical_items t proper, refl)
-literal_spelled (Number z) proper = (proper, refl)
-
 module _ (names : List (List ℕ)) where
   atom_spelled : (x : Atom) → IsProper x → Spelled names tree (literal x) (leaf tt x nil)
   atom_spelled x proper =
-      atom [] (literal x) [] x no_space no_space (literal_spelled x proper) (append-nil (literal x))
+      atom [] (literal x) [] x no_space no_space (canonical_literal x proper) (append-nil (literal x))
 
   element_spelled : (a : ℕ) (c : Plain) → NamesLabel names a → Spelled names inside (trees_text names c) c → Spelled names tree (name_text names a ++ (codes "[" ++ (trees_text names c ++ codes "]"))) (elem tt a c nil)
   element_spelled a c is x =

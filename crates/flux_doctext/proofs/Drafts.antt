@@ -1,9 +1,8 @@
 -- Forests that are being written, whose labels are below a bound.
 use Rattle.std.proofs.Common.{◌≡◌, ℕ, ◌<◌, ◌≤◌, Bool, true, false, if◌then◌else◌, List, [], ◌∷◌, ◌++◌, length, Some, slice_get, bytes_eq, sym, ap, subst, arith}
-use Rattle.std.proofs.lemmas.List.{length-append}
 use Rattle.std.proofs.lemmas.Option.{slice_get_within}
-use Rattle.std.specs.List.{list_any}
 use Rattle.flux_atom.specs.Names.{with_text}
+use Rattle.flux_atom.proofs.Tables.{length-with_text-le}
 use Rattle.flux_trees.specs.Hedge.{Plain, nil, elem, leaf, join}
 use Rattle.flux_trees.specs.Draft.{Draft, done, begun, add, begin, end}
 use Rattle.flux_trees.specs.Each.{EachLabel}
@@ -45,17 +44,10 @@ EachDraftLabel-end n (begun b _ a (done g)) e =
 EachDraftLabel-end n (begun b _ a (begun c _ m d)) e =
     (e.0, e.1, EachDraftLabel-end n (begun c tt m d) e.2)
 
-length-with_text : (names : List (List ℕ)) (t : List ℕ) → length names ≤ length (with_text names t)
-length-with_text names t = by (list_any (bytes_eq t) names)
-  where
-    by : (held : Bool) → length names ≤ length (if held then names else names ++ t ∷ [])
-    by true = omega arith
-    by false = omega (arith, length-append names (t ∷ []))
-
 -- the beginning of an element whose label the table was shown
 pub EachDraftLabel-begin : (names new : List (List ℕ)) (t : List ℕ) (a : ℕ) (d : Draft (Unit {0})) → EachDraftLabel (length names) d → new ≡ with_text names t → slice_get new a ≡ Some t → EachDraftLabel (length new) (begin d tt a)
 EachDraftLabel-begin names new t a d e same at =
-    let grown : length names ≤ length new = omega (arith, ap length same, length-with_text names t) in
+    let grown : length names ≤ length new = omega (arith, ap length same, length-with_text-le names t) in
     draft_begin (length new) a d (draft_grows (length names) (length new) d grown e) (slice_get_within new a t at)
 
 -- the same of an equal table and an equal forest

@@ -30,11 +30,6 @@ AreProper (run ∷ outer) = EachAtom IsProper run × AreProper outer
 abbrev pub ProperBy : Plain → Plain → List Plain → Type 0
 ProperBy h rest outer = EachAtom IsProper rest → AreProper outer → EachAtom IsProper h
 
--- the steps that are left for the open elements
-abbrev pub steps_left : List Plain → ℕ
-steps_left [] = 0
-steps_left (run ∷ outer) = 2 * size run + 1 + steps_left outer
-
 -- the text done begins with the n bytes of start, and with what is left it is start and the whole
 pub record IsWriting (names : List (List ℕ)) (start whole : List ℕ) (n : ℕ) (done : List ℕ) (rest : Plain) (outer : List Plain) : Type 0 where
   pub written : done ++ (trees_text names rest ++ closing_text names outer) ≡ start ++ whole
@@ -78,10 +73,6 @@ proper_atom h x r outer is by behind around = by (is, behind) around
 
 pub proper_end : (h run : Plain) (outer : List Plain) → ProperBy h nil (outer ++ run ∷ []) → ProperBy h run outer
 proper_end h run outer by behind around = by tt (AreProper-push outer run around behind)
-
-pub steps_left-push : (outer : List Plain) (run : Plain) → steps_left (outer ++ run ∷ []) ≡ steps_left outer + (2 * size run + 1)
-steps_left-push [] run = omega arith
-steps_left-push (o ∷ outer) run = omega (arith, steps_left-push outer run)
 
 -- a front stays in front of what is added, and of what a failed write left behind
 front_within : (start done : List ℕ) (n : ℕ) → length start ≡ n → take n done ≡ start → n ≤ length done

@@ -13,8 +13,9 @@ use Rattle.flux_atom.specs.declared.number.NumberState.TheVariants.{Digits}
 use Rattle.flux_atom.specs.Literal.{quote, backslash, newline, tab, is_control, hex_digit, hex_digits, escaped, literal}
 use Rattle.flux_atom.specs.Spelling.{EndsDigits}
 use Rattle.flux_atom.proofs.NumberRuns.{not_number, number_first, number_stands}
+use Rattle.flux_atom.proofs.StandingLiterals.{apart}
 use Rattle.flux_doctext.specs.Text.{HasRange}
-use Rattle.flux_doctext.proofs.Signs.{no_digit}
+use Rattle.flux_doctext.proofs.Signs.{begins-continues, no_digit}
 
 -- what a hexadecimal digit is worth
 abbrev hex_value : ℕ → ℕ
@@ -120,10 +121,6 @@ escaped_end (a ∷ x) (b ∷ y) r s e =
     let rest = escaped_end x y r s (ap (λ p. p.1) read) in
     (ap₂ (λ n l. n ∷ l) (ap (λ p. p.0) read) rest.0, rest.1)
 
--- lists that begin apart
-pub apart : (a b : ℕ) (r s : List ℕ) → a ≢ b → a ∷ r ≡ b ∷ s → ⊥
-apart a b r s differ e = differ (ap (λ l. get_or l 0 0) e)
-
 ends_digits : (r : List ℕ) → EndsName r → EndsDigits r
 ends_digits [] ends = tt
 ends_digits (b ∷ r) ends = no_digit b ends
@@ -173,9 +170,6 @@ name_end (a ∷ p) (b ∷ q) r s p_name q_name r_end s_end e =
     let tails : p ++ r ≡ q ++ s = ap (drop 1) e in
     let rest = name_end p q r s (All-tail (λ c. continues_name c ≡ true) a p p_name) (All-tail (λ c. continues_name c ≡ true) b q q_name) r_end s_end tails in
     (ap₂ (λ n l. n ∷ l) same rest.0, rest.1)
-
-begins-continues : (b : ℕ) → begins_name b ≡ true → continues_name b ≡ true
-begins-continues b e = grind (arith, nat_tests)
 
 pub IsName-continues : (p : List ℕ) → IsName p → AllPass continues_name p
 IsName-continues [] name = absurd name

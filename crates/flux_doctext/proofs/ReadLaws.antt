@@ -15,6 +15,7 @@ use Rattle.flux_atom.specs.declared.number.NumberState.TheVariants.{Minus, Digit
 use Rattle.flux_atom.specs.NumberSteps.{number_begin, number_from, number_step, read_number}
 use Rattle.flux_atom.specs.Names.{continues_name, EndsName, IsName, IsLabel, IsTable}
 use Rattle.flux_atom.specs.Literal.{quote}
+use Rattle.flux_atom.specs.Space.{is_space, IsSpace}
 use Rattle.flux_atom.specs.Spelling.{IsLiteral, AreItems}
 use Rattle.flux_atom.specs.TextSteps.{TextStep, on, closes, misfits, TextRead, text_step, no_text, read_on, and_read as and_text, read_text}
 use Rattle.flux_trees.specs.Hedge.{Plain, nil, elem, leaf}
@@ -22,7 +23,7 @@ use Rattle.flux_trees.specs.Draft.{done, depth, add, begin, end}
 use Rattle.flux_trees.proofs.DraftLaws.{depth-add, depth-begin, depth-end, add-nil, add-add, end-begin}
 use Rattle.flux_doctext.specs.declared.sign.Sign.{Sign}
 use Rattle.flux_doctext.specs.declared.sign.Sign.TheVariants.{Space, Letter, Digit, Quote, Comma, LeftBracket, RightBracket, LeftParen, RightParen, Other}
-use Rattle.flux_doctext.specs.Spells.{is_space, IsSpace, Part, whole, inside, trees, tree, Spelled, none, some, nothing, something, last, more, element, atom}
+use Rattle.flux_doctext.specs.Spells.{Part, whole, inside, trees, tree, Spelled, none, some, nothing, something, last, more, element, atom}
 use Rattle.flux_doctext.specs.Reading.{sign_of, Shape, content, next, name, label, opened, closed, string, number, behind, Event, learn, enter, push, leave, Step, told, close_step, content_step, tree_step, behind_step, label_step, closed_step, opened_step, named_step, name_step, string_step, begin_step, digit_step, truth_of, step, end_named, end_step, number_of, PlainDraft, draft_after, end_fits}
 use Rattle.flux_doctext.proofs.Runs.{depth_after, and_fits, fits, and_read, end_read, read}
 use Rattle.flux_atom.proofs.NumberLaws.{literal_reads, no_digit_fits, none_stays}
@@ -31,9 +32,9 @@ use Rattle.flux_doctext.proofs.TextLaws.{EndsTrees}
 use Rattle.flux_doctext.proofs.Signs.{space_sign, letter_sign, digit_sign, no_digit, named_sign, not_named, spaces_end, IsNamed}
 
 -- the number of a text that the table holds
-number_held : (names : List (List ℕ)) (a : ℕ) (t : List ℕ) → slice_get names a ≡ Some t → slice_get names (number_of names t) ≡ Some t
-number_held [] a t at = absurd cc
-number_held (n ∷ names) a t at = by (bytes_eq t n) refl a at (number_held names)
+pub number_found : (names : List (List ℕ)) (a : ℕ) (t : List ℕ) → slice_get names a ≡ Some t → slice_get names (number_of names t) ≡ Some t
+number_found [] a t at = absurd cc
+number_found (n ∷ names) a t at = by (bytes_eq t n) refl a at (number_found names)
   where
     later : (i : ℕ) → slice_get (n ∷ names) i ≡ Some t → bytes_eq t n ≡ false → ((a : ℕ) (t : List ℕ) → slice_get names a ≡ Some t → slice_get names (number_of names t) ≡ Some t) → slice_get names (number_of names t) ≡ Some t
     later zero e differs found =
@@ -46,10 +47,7 @@ number_held (n ∷ names) a t at = by (bytes_eq t n) refl a at (number_held name
     by false e i there found = later i there e found
 
 pub number_is : (names : List (List ℕ)) (a : ℕ) (t : List ℕ) → IsTable names → slice_get names a ≡ Some t → number_of names t ≡ a
-number_is names a t table at = table.differ (number_of names t) a t (number_held names a t at) at
-
-pub number_found : (names : List (List ℕ)) (a : ℕ) (t : List ℕ) → slice_get names a ≡ Some t → slice_get names (number_of names t) ≡ Some t
-number_found names a t at = number_held names a t at
+number_is names a t table at = table.differ (number_of names t) a t (number_found names a t at) at
 
 bytes_apart : (s t : List ℕ) → (s ≡ t → ⊥) → bytes_eq s t ≡ false
 bytes_apart s t differ = by (bytes_eq s t) refl

@@ -9,9 +9,9 @@ use Rattle.flux_atom.specs.declared.number.NumberState.TheVariants.{Minus, Digit
 use Rattle.flux_atom.specs.NumberSteps.{minus, number_begin}
 use Rattle.flux_atom.specs.Names.{begins_name, continues_name, EndsName}
 use Rattle.flux_atom.specs.Literal.{quote}
+use Rattle.flux_atom.specs.Space.{is_space, IsSpace}
 use Rattle.flux_doctext.specs.declared.sign.Sign.{Sign}
 use Rattle.flux_doctext.specs.declared.sign.Sign.TheVariants.{Space, Comma, LeftBracket, RightBracket, LeftParen, RightParen, Quote, Letter, Digit, Other}
-use Rattle.flux_doctext.specs.Spells.{is_space, IsSpace}
 use Rattle.flux_doctext.specs.Reading.{sign_of}
 use Rattle.std.proofs.lemmas.List.Elements.{All-head}
 

@@ -2,9 +2,10 @@
 use Rattle.std.proofs.Common.{◌≡◌, ℕ, true, List, [], ◌∷◌, ◌++◌, slice_get, codes, Some, refl, sym, ap, ◌∙◌, append_assoc}
 use Rattle.std.proofs.lemmas.List.Elements.{All-push, All-nil}
 use Rattle.std.proofs.lemmas.Option.{slice_get_within}
+use Rattle.flux_atom.specs.Space.{is_space, IsSpace}
 use Rattle.flux_trees.specs.Hedge.{Plain, join}
 use Rattle.flux_trees.proofs.HedgeLaws.{join_assoc}
-use Rattle.flux_doctext.specs.Spells.{is_space, IsSpace, Part, whole, trees, tree, Spelled, none, some, nothing, something, last, more, element, atom}
+use Rattle.flux_doctext.specs.Spells.{Part, whole, trees, tree, Spelled, none, some, nothing, something, last, more, element, atom}
 use Rattle.flux_doctext.proofs.TextLaws.{slice_get-more}
 
 pub no_space : IsSpace []

@@ -12,6 +12,7 @@ use Rattle.flux_atom.specs.declared.number.NumberState.{NumberState}
 use Rattle.flux_atom.specs.declared.number.NumberState.TheVariants.{Minus, Digits}
 use Rattle.flux_atom.specs.Literal.{quote}
 use Rattle.flux_atom.specs.NumberSteps.{number_begin, number_step, read_number}
+use Rattle.flux_atom.specs.Space.{is_space}
 use Rattle.flux_atom.specs.Spelling.{IsLiteral}
 use Rattle.flux_atom.specs.TextSteps.{TextStep, on, closes, misfits, TextRead, text_step, no_text, read_on, and_read as and_text}
 use Rattle.flux_atom.proofs.NumberLaws.{read_push, says}
@@ -21,7 +22,7 @@ use Rattle.flux_trees.specs.Draft.{depth, add, end}
 use Rattle.flux_trees.proofs.DraftLaws.{depth-add}
 use Rattle.flux_doctext.specs.declared.sign.Sign.{Sign}
 use Rattle.flux_doctext.specs.declared.sign.Sign.TheVariants.{Space, Letter, Digit, Quote, Comma, LeftBracket, RightBracket, LeftParen, RightParen, Other}
-use Rattle.flux_doctext.specs.Spells.{is_space, inside, trees, Spelled, none, some, nothing, something, atom}
+use Rattle.flux_doctext.specs.Spells.{inside, trees, Spelled, none, some, nothing, something, atom}
 use Rattle.flux_doctext.specs.Reading.{sign_of, Shape, content, next, name, label, opened, closed, string, number, behind, learn, push, Step, told, close_step, content_step, tree_step, behind_step, label_step, closed_step, opened_step, named_step, name_step, string_step, begin_step, numbered_step, digit_step, truth_of, step, number_of, PlainDraft, draft_after, names_after}
 use Rattle.flux_doctext.proofs.Signs.{IsSignOf, sign_is, begins-continues}
 use Rattle.flux_doctext.proofs.SpelledLaws.{no_space, one_space, trees_space, whole_space}

@@ -4,9 +4,10 @@ use Rattle.flux_atom.specs.Names.{IsName, IsLabel}
 use Rattle.flux_atom.specs.Literal.{quote}
 use Rattle.flux_atom.specs.NumberSteps.{read_number}
 use Rattle.flux_atom.specs.TextSteps.{TextRead, no_text, read_text}
+use Rattle.flux_atom.specs.Space.{IsSpace}
 use Rattle.flux_trees.specs.Hedge.{Plain, nil}
 use Rattle.flux_trees.specs.Draft.{done, begun}
-use Rattle.flux_doctext.specs.Spells.{IsSpace, whole, trees, Spelled}
+use Rattle.flux_doctext.specs.Spells.{whole, trees, Spelled}
 use Rattle.flux_doctext.specs.Reading.{Shape, content, next, name, label, opened, closed, string, number, behind, number_of, PlainDraft}
 
 -- what stands before a tree: nothing, or the trees before it and a comma

@@ -9,11 +9,11 @@ use Rattle.flux_atom.specs.declared.number.NumberState.TheVariants.{Minus, Digit
 use Rattle.flux_atom.specs.Literal.{quote}
 use Rattle.flux_atom.specs.NumberSteps.{number_begin, number_step}
 use Rattle.flux_atom.specs.TextSteps.{TextStep, on, closes, misfits, TextRead, text_step, no_text}
+use Rattle.flux_atom.specs.Space.{is_space}
 use Rattle.flux_trees.specs.Hedge.{nil, leaf}
 use Rattle.flux_trees.specs.Draft.{Draft, add, begin, end}
 use Rattle.flux_doctext.specs.declared.sign.Sign.{Sign}
 use Rattle.flux_doctext.specs.declared.sign.Sign.TheVariants.{Space, Comma, LeftBracket, RightBracket, LeftParen, RightParen, Quote, Letter, Digit, Other}
-use Rattle.flux_doctext.specs.Spells.{is_space}
 
 -- what a byte is, outside of strings
 abbrev pub sign_of : ℕ → Sign

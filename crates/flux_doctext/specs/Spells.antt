@@ -1,17 +1,10 @@
 -- What a document spells: the grammar of forests as text.
-use Rattle.std.specs.Prelude.{◌≡◌, ℕ, Bool, ◌||◌, ◌==◌, List, ◌++◌, Some, codes, slice_get}
-use Rattle.std.specs.List.{AllPass}
+use Rattle.std.specs.Prelude.{◌≡◌, ℕ, List, ◌++◌, Some, codes, slice_get}
 use Rattle.flux_atom.specs.declared.atom.Atom.{Atom}
 use Rattle.flux_atom.specs.Names.{IsLabel, IsTable}
+use Rattle.flux_atom.specs.Space.{IsSpace}
 use Rattle.flux_atom.specs.Spelling.{IsLiteral}
 use Rattle.flux_trees.specs.Hedge.{Plain, nil, elem, leaf, join}
-
--- space, tab, carriage return, newline
-abbrev pub is_space : ℕ → Bool
-is_space b = b == 32 || (b == 9 || (b == 13 || b == 10))
-
-abbrev pub IsSpace : List ℕ → Type 0
-IsSpace bytes = AllPass is_space bytes
 
 -- the parts of a document: a forest; what stands in an element's brackets; one tree and more, with
 -- commas between them; one tree

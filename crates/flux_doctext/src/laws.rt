@@ -9,8 +9,8 @@ pub fn text_tells_forest()
 {}
 
 /// The canonical text of a forest whose labels are labels of a table, whose texts are characters,
-/// and whose numbers have 64 bits, spells that forest and no other. It does nothing: its contract is
-/// the law.
+/// and whose numbers have 64 bits, spells that forest and no other. It does nothing: its contract
+/// is the law.
 pub fn canonical_text_spells()
     ensures { CanonicalTextSpells }
 {}

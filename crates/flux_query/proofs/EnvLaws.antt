@@ -12,9 +12,6 @@ use Rattle.flux_calculus.specs.Query.{Environment, same_var, found}
 use Rattle.flux_query.specs.declared.env.Binding.{Binding}
 use Rattle.flux_query.specs.Environments.{pair_of, environment_of, AreWhole}
 
-never : {P : Type 0} → (P → ⊥) → Decides false P
-never no_one = (λ e. cc, λ p. absurd (no_one p))
-
 environment_of-push : (bs : List Binding) (b : Binding) → environment_of (bs ++ b ∷ []) ≡ pair_of b ∷ environment_of bs
 environment_of-push bs b = simp (map-append, reverse-append)
 

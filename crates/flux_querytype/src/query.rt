@@ -41,7 +41,8 @@ pub(crate) fn type_of<D: Decider>(
     requires ready { IsReady (D.definitions decider.old) (D.unnamed decider.old) gamma.old }
     requires query_lacks { QueryLacks (D.unnamed decider.old) (query_of query.now) }
     ensures answer { let defs = D.definitions decider.old in
-        IsAnswer (IsEvidence defs (D.unnamed decider.old)) (Types defs (of_query gamma.old (query_of query.now))) result }
+        IsAnswer (IsEvidence defs (D.unnamed decider.old))
+            (Types defs (of_query gamma.old (query_of query.now))) result }
     ensures left { Leaves D.definitions D.unnamed D.keeps D.known decider.old decider.new
         gamma.old gamma.new }
 {
@@ -93,7 +94,8 @@ fn type_all<D: Decider>(
     requires ready { IsReady (D.definitions decider.old) (D.unnamed decider.old) gamma.old }
     requires queries_lacks { QueryLacks (D.unnamed decider.old) (queries_of span queries.now) }
     ensures answer { let defs = D.definitions decider.old in
-        IsAnswer (IsEvidence defs (D.unnamed decider.old)) (Types defs (of_query gamma.old (queries_of span queries.now))) result }
+        IsAnswer (IsEvidence defs (D.unnamed decider.old))
+            (Types defs (of_query gamma.old (queries_of span queries.now))) result }
     ensures left { Leaves D.definitions D.unnamed D.keeps D.known decider.old decider.new
         gamma.old gamma.new }
 {
@@ -384,7 +386,8 @@ fn type_trees<D: Decider>(
     requires lacks { Lacks (D.unnamed decider.old) (ty_of ty) }
     ensures answer { let defs = D.definitions decider.old in
         let returned = returning gamma.old step.now.var (query_of step.now.body.now) in
-        IsAnswer (IsEvidence defs (D.unnamed decider.old)) (Types defs (of_map step.now.span.from returned (ty_of ty))) result }
+        IsAnswer (IsEvidence defs (D.unnamed decider.old))
+            (Types defs (of_map step.now.span.from returned (ty_of ty))) result }
     ensures left { Leaves D.definitions D.unnamed D.keeps D.known decider.old decider.new
         gamma.old gamma.new }
 {

@@ -45,7 +45,7 @@ pub fn type_query<D: Decider>(
     ensures left { Leaves D.definitions D.unnamed D.keeps D.known decider.old decider.new
         gamma.old gamma.new }
 {
-    // the calls are made for what they promise: the definitions are good, and the label isn't theirs
+    // the calls are made for what they promise: the definitions are good and don't name the label
     let _defs = decider.defs();
     let _other = decider.other();
     let made = type_of(alloc, query, gamma, decider)?;

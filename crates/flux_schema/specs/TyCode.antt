@@ -26,8 +26,8 @@ to_kind-from_kind kind.Bool = refl
 to_kind-from_kind kind.Text = refl
 to_kind-from_kind kind.Int = refl
 
--- a mark of the prefix notation: a leaf that is empty, an atom or a name, or else an element, one of
--- any label, a star, a sequence or a choice
+-- a mark of the prefix notation: a leaf that is empty, an atom or a name, or else an element, one
+-- of any label, a star, a sequence or a choice
 abbrev Mark : Type 0
 Mark = (Unit {0} ⊎ (Bits ⊎ ℕ)) ⊎ (ℕ ⊎ (Bool ⊎ Bool))
 

@@ -62,8 +62,8 @@ IsTreeLabel ts n = (t : Tree) × Has ts t × IsHeadLabel t.head n
 abbrev pub IsShown : List Group → ℕ → ℕ → Type 0
 IsShown groups other n = (n ≡ other) ⊎ HasGroup groups n
 
--- the tree is an element with such a label, whose content has the profile p, which is kept at c; its
--- moves are as wide as those of the links
+-- the tree is an element with such a label, whose content has the profile p, which is kept at c;
+-- its moves are as wide as those of the links
 abbrev pub IsElementOf : List Group → List Link → ℕ → List Bool → ℕ → Tree → Type 0
 IsElementOf groups any other p c t =
     (n : ℕ) × IsShown groups other n × (t.head ≡ Elem n c) × ByLinks groups any n p t.moves.items

@@ -34,8 +34,8 @@ pub(crate) struct Group {
     pub(crate) links: Vec<Link>,
 }
 
-// The edges of an automaton: the moves by atoms of each kind, the links by elements of any label, and
-// the groups of links.
+// The edges of an automaton: the moves by atoms of each kind, the links by elements of any label,
+// and the groups of links.
 #[derive(Drop)]
 pub(crate) struct Index {
     pub(crate) bools: Vec<Move>,

@@ -58,11 +58,6 @@ abbrev pub closed : List ℕ → List Plain → PlainDraft → PlainDraft
 closed path [] d = d
 closed path (run ∷ outer) d = add (end (closed (drop 1 path) outer d)) (pruned path run)
 
--- the steps that are left for the outer levels
-abbrev pub steps_left : List Plain → ℕ
-steps_left [] = 0
-steps_left (run ∷ outer) = 2 * size run + 1 + steps_left outer
-
 -- with what is left the forest d becomes the whole without what stands on the path
 pub record IsPruning (path : List ℕ) (whole : Plain) (d : PlainDraft) (rest : Plain) (outer : List Plain) : Type 0 where
   pub written : closed path outer (add d (pruned (drop (length outer) path) rest)) ≡ done (pruned path whole)
@@ -77,10 +72,6 @@ pub closed-push : (path : List ℕ) (outer : List Plain) (run : Plain) (d : Plai
 closed-push path [] run d = refl
 closed-push path (o ∷ outer) run d =
     ap (λ e. add (end e) (pruned path o)) (closed-push (drop 1 path) outer run d ∙ ap (λ p. closed (drop 1 path) outer (add (end d) (pruned p run))) (drop_one path (length outer)))
-
-pub steps_left-push : (outer : List Plain) (run : Plain) → steps_left (outer ++ run ∷ []) ≡ steps_left outer + (2 * size run + 1)
-steps_left-push [] run = omega arith
-steps_left-push (o ∷ outer) run = omega (arith, steps_left-push outer run)
 
 -- the path from a level on: the label there, and the path from the next level on
 from_level : (path : List ℕ) (k n : ℕ) → k < length path → n ≡ get_or path k n → drop k path ≡ n ∷ drop (suc k) path

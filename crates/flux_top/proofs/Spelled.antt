@@ -7,6 +7,7 @@ use Rattle.std.proofs.lemmas.Slice.Eq.{bytes_eq-Decides}
 use Rattle.std.specs.Prelude.{Option, IsSomeAnd, slice_get, unwrap_or, All, bytes_eq}
 use Rattle.std.specs.List.{list_any}
 use Rattle.flux_atom.specs.Names.{IsLabel, IsName, IsTable, with_text}
+use Rattle.flux_atom.proofs.FreshLaws.{last_at}
 use Rattle.flux_trees.specs.Hedge.{Plain, nil, elem, leaf, join}
 use Rattle.flux_trees.specs.Each.{EachLabel}
 use Rattle.flux_doctext.specs.Text.{NamesLabel, name_text}
@@ -55,16 +56,12 @@ place_in t (u ∷ names) held = place_next t u names (bytes_eq t u) refl (by (by
     by true e rest = inr refl
     by false e rest = inl (rest e)
 
-last_held : (names : List (List ℕ)) (t : List ℕ) → slice_get (names ++ t ∷ []) (length names) ≡ Some t
-last_held [] t = refl
-last_held (u ∷ names) t = last_held names t
-
 with_text-holds : (names : List (List ℕ)) (t : List ℕ) → (b : ℕ) × (slice_get (with_text names t) b ≡ Some t)
 with_text-holds names t = by (list_any (bytes_eq t) names) refl
   where
     by : (held : Bool) → list_any (bytes_eq t) names ≡ held → (b : ℕ) × (slice_get (if held then names else names ++ t ∷ []) b ≡ Some t)
     by true is = place_in t names is
-    by false is = (length names, last_held names t)
+    by false is = (length names, last_at names t)
 
 -- the table that has learnt the second covers both
 covered_table : (names others : List (List ℕ)) → IsTable names → All IsName others → IsTable (learnt names others)

@@ -7,9 +7,9 @@ ghost use Rattle.flux_types.specs.Read.{ty_of};
 use flux_atom::{AtomKind, Boxed, Name};
 use std::alloc::{AllocError, Global};
 
-/// A regular expression over truth values, texts, whole numbers and elements. Contracts read it as the type of
-/// the calculus that it spells. A type is dropped by a recursion as deep as its height: at most 500
-/// for one within the limits.
+/// A regular expression over truth values, texts, whole numbers and elements. Contracts read it as
+/// the type of the calculus that it spells. A type is dropped by a recursion as deep as its height:
+/// at most 500 for one within the limits.
 #[derive(Debug, Drop)]
 pub enum Ty {
     /// The empty forest.

@@ -4,7 +4,8 @@ use Rattle.flux_atom.specs.Literal.{literal}
 use Rattle.flux_trees.specs.Hedge.{nil, content, others, first, size}
 use Rattle.flux_forest.specs.View.{forest_of}
 use Rattle.flux_doctext.specs.Text.{comma, trees_text}
-use Rattle.flux_doctext.proofs.Levels.{IsWriting, ProperBy, steps_left, steps_left-push, atom_step, element_step, end_step, proper_atom, proper_element, proper_end}
+use Rattle.flux_trees.proofs.HedgeLaws.{steps_left, steps_left-push}
+use Rattle.flux_doctext.proofs.Levels.{IsWriting, ProperBy, atom_step, element_step, end_step, proper_atom, proper_element, proper_end}
 use Rattle.flux_doctext.proofs.LabelLaws.{proper}
 use Rattle.flux_doctext.proofs.write.push_trees.Goals as goal
 use Rattle.flux_doctext.proofs.write.push_trees.Goals.{In_ok-push_end-in-Nothing, After-content-rest}

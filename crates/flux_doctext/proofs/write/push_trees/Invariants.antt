@@ -2,7 +2,8 @@ use Rattle.std.proofs.Common.{◌+◌, ◌*◌, map, vec_len}
 use Rattle.flux_trees.specs.Hedge.{size}
 use Rattle.flux_forest.specs.View.{forest_of}
 use Rattle.flux_doctext.specs.Text.{trees_text}
-use Rattle.flux_doctext.proofs.Levels.{IsWriting, ProperBy, steps_left}
+use Rattle.flux_trees.proofs.HedgeLaws.{steps_left}
+use Rattle.flux_doctext.proofs.Levels.{IsWriting, ProperBy}
 use Rattle.flux_doctext.proofs.write.push_trees.Given as goal
 
 abbrev pub invariant-loop-outer : goal.invariant-loop-outer

@@ -6,7 +6,8 @@ use Rattle.flux_trees.specs.Draft.{done, add}
 use Rattle.flux_forest.specs.declared.view.View.{View}
 use Rattle.flux_forest.specs.View.{forest_of}
 use Rattle.flux_top.specs.Paths.{standard}
-use Rattle.flux_top.proofs.Pruned.{PlainDraft, IsPruning, pruned, pruned_derives, pruning_starts, pruning_ends, end_step, atom_step, other_step, last_step, inner_step, steps_left, steps_left-push}
+use Rattle.flux_trees.proofs.HedgeLaws.{steps_left, steps_left-push}
+use Rattle.flux_top.proofs.Pruned.{PlainDraft, IsPruning, pruned, pruned_derives, pruning_starts, pruning_ends, end_step, atom_step, other_step, last_step, inner_step}
 use Rattle.flux_top.proofs.delete.deleted.Goals as goal
 use Rattle.flux_top.proofs.delete.deleted.Goals.{After-drop-outer, In_ok-rest-in-Elem, In_ok-rest-in-Atom, Then-len-path, After-content-rest, After-index-path-len}
 

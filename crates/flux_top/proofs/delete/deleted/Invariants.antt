@@ -1,7 +1,8 @@
 use Rattle.std.proofs.Common.{◌+◌, ◌*◌, map}
 use Rattle.flux_trees.specs.Hedge.{size}
 use Rattle.flux_forest.specs.View.{forest_of}
-use Rattle.flux_top.proofs.Pruned.{IsPruning, steps_left}
+use Rattle.flux_trees.proofs.HedgeLaws.{steps_left}
+use Rattle.flux_top.proofs.Pruned.{IsPruning}
 use Rattle.flux_top.proofs.delete.deleted.Given as goal
 
 abbrev pub invariant-loop-outer : goal.invariant-loop-outer
