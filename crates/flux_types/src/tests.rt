@@ -345,8 +345,8 @@ fn a_name_under_an_element_of_any_label(rt: HostRuntime) -> Result<(), Fail> {
     // X = any[X]
     let defs = close_one(&rt, alloc, label, under_any(alloc)?)??;
     assert_eq!(rt; defs.len(), 1);
+    assert!(rt; matches!(single(&defs, &Ty::Named(0)), Some(Ty::AnyElem(_))));
     let body = defs.unfold(0);
-    assert!(rt; matches!(single(&defs, body), Some(Ty::AnyElem(_))));
     assert_eq!(rt; size(body), 2);
     assert_eq!(rt; height(body), 2);
     Ok(())
