@@ -11,8 +11,8 @@ use std::alloc::{AllocError, Global};
 use std::marker::Model;
 
 /// Decides inclusion by an automaton of both types: it finds the sets of states that forests can
-/// have, until one has the left type's state and lacks the right one's, or none is new. It
-/// remembers nothing. The time may be exponential in the sizes of the types, and the forest that
+/// have, until one has the left type's state and lacks the right one's, or none is new. Types that
+/// have one state, as equal ones do, take no search. It remembers nothing. The time may be exponential in the sizes of the types, and the forest that
 /// is answered may be exponentially large.
 #[derive(Drop)]
 pub struct Profiles<'d> {
@@ -70,8 +70,12 @@ impl<'d> Decider for Profiles<'d> {
         let right = auto.add(right)?;
         // each label of its edges stands in the definitions or in one of the types
         let _states = auto.states();
-        let mut kept = Vec::new(alloc);
         let (left, right) = (auto.state(left), auto.state(right));
+        // equal types have one state
+        if left == right {
+            return Ok(Verdict::Yes);
+        }
+        let mut kept = Vec::new(alloc);
         let found = search(alloc, &auto, self.other, left, right, &mut kept)?;
         match found {
             None => Ok(Verdict::Yes),

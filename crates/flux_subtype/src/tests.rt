@@ -152,7 +152,8 @@ fn declare_many(
     Ok(draft)
 }
 
-// Labels, of which no type names `other`, and the definitions 0 = a[0*], 1 = a[1*], 2 = c[2] and 3 = a[]|b[].
+// Labels, of which no type names `other`, and the definitions 0 = a[0*], 1 = a[1*], 2 = c[2] and
+// 3 = a[]|b[].
 #[derive(Drop)]
 struct Scene {
     a: Name,
@@ -324,8 +325,8 @@ fn names_and_atoms(rt: HostRuntime) -> Result<(), Fail> {
 fn any_labels_and_numbers(rt: HostRuntime) -> Result<(), Fail> {
     let alloc = rt.alloc();
     let at = make_scene(&rt, alloc)?;
-    // a[]|b[] and any[]; any[any[]] and any[a[]]; any[int] and any[int|string]; int and string|bool;
-    // any[] and any[]|a[]; a[int] and any[string]; any[]* and (a[]|any[])*
+    // a[]|b[] and any[]; any[any[]] and any[a[]]; any[int] and any[int|string];
+    // int and string|bool; any[] and any[]|a[]; a[int] and any[string]; any[]* and (a[]|any[])*
     let text = "|a.b. ?.  ??. ?a.  ?i ?|is  i |st  ?. |?.a.  ai ?s  *?. *|a.?.";
     let wants = [
         LEFT_ONLY, RIGHT_ONLY, LEFT_ONLY, NEITHER, BOTH, NEITHER, BOTH,
@@ -414,4 +415,67 @@ fn chains_of_names(rt: HostRuntime) -> Result<(), Fail> {
     let choices = chain(&rt, alloc, &mut names, CHOICES, a, Some(b))?;
     assert_included(&rt, alloc, &choices, other, &head, &last, false)?;
     assert_included(&rt, alloc, &choices, other, &last, &head, true)
+}
+
+const STEPS: u32 = 15;
+
+fn numbered(
+    rt: &impl Abort,
+    names: &mut Names,
+    alloc: Global,
+    front: &str,
+    number: u32,
+) -> Result<Name, Fail> {
+    let text = format!(in alloc; "{front}{number}")?;
+    label(rt, names, &text)
+}
+
+fn labels(
+    rt: &impl Abort,
+    alloc: Global,
+    names: &mut Names,
+    front: &str,
+) -> Result<Vec<Name>, Fail> {
+    let mut labels = Vec::new(alloc);
+    for number in 0..STEPS {
+        labels.push(numbered(rt, names, alloc, front, number)?)?;
+    }
+    Ok(labels)
+}
+
+// A choice between the elements of all inner labels but one, any number of times.
+fn all_but(alloc: Global, inner: &[Name], missing: usize) -> Result<Ty, AllocError> {
+    let mut choice = Ty::Empty;
+    for index in 0..inner.len() {
+        if index != missing {
+            let leaf = Ty::Elem(inner[index], Boxed::new(alloc, Ty::Empty)?);
+            choice = Ty::Alt(Boxed::new(alloc, leaf)?, Boxed::new(alloc, choice)?);
+        }
+    }
+    Ok(Ty::Star(Boxed::new(alloc, choice)?))
+}
+
+// A choice between elements of the outer labels, whose contents lack one inner label each. Their
+// forests have a profile for each set of inner labels.
+fn ladder(alloc: Global, outer: &[Name], inner: &[Name]) -> Result<Ty, AllocError> {
+    let mut choice = Ty::Empty;
+    for index in 0..outer.len() {
+        let content = all_but(alloc, inner, index)?;
+        let element = Ty::Elem(outer[index], Boxed::new(alloc, content)?);
+        choice = Ty::Alt(Boxed::new(alloc, element)?, Boxed::new(alloc, choice)?);
+    }
+    Ok(choice)
+}
+
+#[test]
+fn equal_types_take_no_search(rt: HostRuntime) -> Result<(), Fail> {
+    let alloc = rt.alloc();
+    let mut names = Names::new(alloc);
+    let outer = labels(&rt, alloc, &mut names, "e")?;
+    let inner = labels(&rt, alloc, &mut names, "f")?;
+    let other = label(&rt, &mut names, "other")?;
+    let defs = Draft::new(alloc).close()?;
+    let left = ladder(alloc, &outer, &inner)?;
+    let right = ladder(alloc, &outer, &inner)?;
+    assert_included(&rt, alloc, &defs, other, &left, &right, true)
 }
