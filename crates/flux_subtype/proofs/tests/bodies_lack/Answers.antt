@@ -10,7 +10,7 @@ use Rattle.flux_subtype.proofs.tests.bodies_lack.Goals as goal
 pub loop-index-preserved : goal.loop-index-preserved
 loop-index-preserved c = λ x t lt e. elim (below_or_at x c.loop-index.index lt) [
   | inl l ↦ c.loop-index.invariant x t l e
-  | inr at ↦ subst (Lacks c.args.label) (some_is (ty_of c.unfold.result.now) t (sym c.unfold.ensures.body ∙ ap (body_of c.args.defs.now) (sym at) ∙ e)) (c.lacks.ensures c.if-lacks.true)
+  | inr at ↦ subst (Lacks c.args.label) (some_is (ty_of c.unfold.result.now) t (sym c.unfold.ensures.body ∙ ap (body_of c.args.defs.now) (sym at) ∙ e)) (c.lacks.ensures c.if-not-lacks.false)
 ]
 
 pub returns : goal.returns
