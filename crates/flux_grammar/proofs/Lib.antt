@@ -1,0 +1,4 @@
+pub mod TokenReads
+pub mod TokenRuns
+mod TokenSigns
+pub mod TokenSound
