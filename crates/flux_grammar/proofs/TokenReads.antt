@@ -106,7 +106,7 @@ number_begins b s e = by (b == minus) refl (is_ascii_digit b) refl
     by false f false h = let none : ◌≡◌ {A = Option NumberState} None (Some s) = neither false false f h in absurd cc
 
 -- strings and numbers go on as their own machines do
-text_moves : (p text : List ℕ) (r s : TextRead) → read_text r p ≡ Some s → moves (string r) text p ≡ Some (string s)
+pub text_moves : (p text : List ℕ) (r s : TextRead) → read_text r p ≡ Some s → moves (string r) text p ≡ Some (string s)
 text_moves [] text r s e = let same : r ≡ s = cc in ap (λ t. Some (string t)) same
 text_moves (b ∷ p) text r s e = by (text_step r.0 b) refl (λ t f. text_moves p (text ++ b ∷ []) t s f)
   where

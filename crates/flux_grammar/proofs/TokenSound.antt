@@ -66,8 +66,8 @@ IsSoundBegin b (Some t) = IsSound t (b ∷ [])
 
 -- what holds on both sides of a test
 either : {A : Type 0} (P : A → Type 0) (t : Bool) (x y : A) → (t ≡ true → P x) → (t ≡ false → P y) → P (if t then x else y)
-either P true x y yes no = yes refl
-either P false x y yes no = no refl
+either P true x y passed failed = passed refl
+either P false x y passed failed = failed refl
 
 name_push : (name : List ℕ) (b : ℕ) → IsName name → continues_name b ≡ true → IsName (name ++ b ∷ [])
 name_push [] b name e = absurd name
@@ -154,47 +154,70 @@ move_sound (sign a) text b is = sign_sound text a b is.0 is.1
 move_sound (closed kind) text b is = λ rest. (is.0, is.1 (b ∷ rest))
 
 -- the first byte
-number_other_sound : (b : ℕ) → IsSoundBegin b (if is_sign b then Some (sign b) else number_stage (number_begin b))
-other_sound b =
+number_begin_sound : (b : ℕ) (x : Option NumberState) → number_begin b ≡ x → IsSoundBegin b (number_stage x)
+number_begin_sound b None e = tt
+number_begin_sound b (Some s) e = e
+
+-- the tests of `begin_stage`, from one of them on
+abbrev from_sign : ℕ → Option Stage
+from_sign b = if is_sign b then Some (sign b) else number_stage (number_begin b)
+
+abbrev from_quote : ℕ → Option Stage
+from_quote b = if b == quote then Some (string no_text) else from_sign b
+
+abbrev from_dollar : ℕ → Option Stage
+from_dollar b = if b == 36 then Some dollar else from_quote b
+
+abbrev from_single : ℕ → Option Stage
+from_single b = if b == 39 then Some opened else from_dollar b
+
+abbrev from_letter : ℕ → Option Stage
+from_letter b = if begins_name b then Some word else from_single b
+
+abbrev from_hash : ℕ → Option Stage
+from_hash b = if b == 35 then Some remark else from_letter b
+
+sign_begun : (b : ℕ) → IsSoundBegin b (from_sign b)
+sign_begun b =
     either (IsSoundBegin b) (is_sign b) (Some (sign b)) (number_stage (number_begin b))
     (λ e. (refl, e))
     (λ e. number_begin_sound b (number_begin b) refl)
 
-quote_sound : (b : ℕ) → IsSoundBegin b (if b == quote then Some (string no_text) else (if is_sign b then Some (sign b) else number_stage (number_begin b)))
-quote_sound b =
-    either (IsSoundBegin b) (b == quote) (Some (string no_text)) (if is_sign b then Some (sign b) else number_stage (number_begin b))
+quote_begun : (b : ℕ) → IsSoundBegin b (from_quote b)
+quote_begun b =
+    either (IsSoundBegin b) (b == quote) (Some (string no_text)) (from_sign b)
     (λ e. ([], refl, ap (λ c. c ∷ []) (eqb-true b quote e)))
-    (λ e. other_sound b)
+    (λ e. sign_begun b)
 
-dollar_sound : (b : ℕ) → IsSoundBegin b (if b == 36 then Some dollar else (if b == quote then Some (string no_text) else (if is_sign b then Some (sign b) else number_stage (number_begin b))))
-dollar_sound b =
-    either (IsSoundBegin b) (b == 36) (Some dollar) (if b == quote then Some (string no_text) else (if is_sign b then Some (sign b) else number_stage (number_begin b)))
+dollar_begun : (b : ℕ) → IsSoundBegin b (from_dollar b)
+dollar_begun b =
+    either (IsSoundBegin b) (b == 36) (Some dollar) (from_quote b)
     (λ e. ap (λ c. c ∷ []) (eqb-true b 36 e))
-    (λ e. quote_sound b)
+    (λ e. quote_begun b)
 
-single_sound : (b : ℕ) → IsSoundBegin b (if b == 39 then Some opened else (if b == 36 then Some dollar else (if b == quote then Some (string no_text) else (if is_sign b then Some (sign b) else number_stage (number_begin b)))))
-single_sound b =
-    either (IsSoundBegin b) (b == 39) (Some opened) (if b == 36 then Some dollar else (if b == quote then Some (string no_text) else (if is_sign b then Some (sign b) else number_stage (number_begin b))))
+single_begun : (b : ℕ) → IsSoundBegin b (from_single b)
+single_begun b =
+    either (IsSoundBegin b) (b == 39) (Some opened) (from_dollar b)
     (λ e. ap (λ c. c ∷ []) (eqb-true b 39 e))
-    (λ e. dollar_sound b)
+    (λ e. dollar_begun b)
 
-letter_sound : (b : ℕ) → IsSoundBegin b (if begins_name b then Some word else (if b == 39 then Some opened else (if b == 36 then Some dollar else (if b == quote then Some (string no_text) else (if is_sign b then Some (sign b) else number_stage (number_begin b))))))
-letter_sound b =
-    either (IsSoundBegin b) (begins_name b) (Some word) (if b == 39 then Some opened else (if b == 36 then Some dollar else (if b == quote then Some (string no_text) else (if is_sign b then Some (sign b) else number_stage (number_begin b)))))
+letter_begun : (b : ℕ) → IsSoundBegin b (from_letter b)
+letter_begun b =
+    either (IsSoundBegin b) (begins_name b) (Some word) (from_single b)
     (λ e. name_one b e)
-    (λ e. single_sound b)
+    (λ e. single_begun b)
 
-hash_sound : (b : ℕ) → IsSoundBegin b (if b == 35 then Some remark else (if begins_name b then Some word else (if b == 39 then Some opened else (if b == 36 then Some dollar else (if b == quote then Some (string no_text) else (if is_sign b then Some (sign b) else number_stage (number_begin b)))))))
-hash_sound b =
-    either (IsSoundBegin b) (b == 35) (Some remark) (if begins_name b then Some word else (if b == 39 then Some opened else (if b == 36 then Some dollar else (if b == quote then Some (string no_text) else (if is_sign b then Some (sign b) else number_stage (number_begin b))))))
+hash_begun : (b : ℕ) → IsSoundBegin b (from_hash b)
+hash_begun b =
+    either (IsSoundBegin b) (b == 35) (Some remark) (from_letter b)
     (λ e. ([], All-nil (λ c. c ≢ newline), ap (λ c. c ∷ []) (eqb-true b 35 e)))
-    (λ e. letter_sound b)
+    (λ e. letter_begun b)
 
 begin_sound : (b : ℕ) → IsSoundBegin b (begin_stage b)
 begin_sound b =
-    either (IsSoundBegin b) (is_space b) (Some blank) (if b == 35 then Some remark else (if begins_name b then Some word else (if b == 39 then Some opened else (if b == 36 then Some dollar else (if b == quote then Some (string no_text) else (if is_sign b then Some (sign b) else number_stage (number_begin b)))))))
+    either (IsSoundBegin b) (is_space b) (Some blank) (from_hash b)
     (λ e. All-cons (λ c. is_space c ≡ true) b [] e (All-nil (λ c. is_space c ≡ true)))
-    (λ e. hash_sound b)
+    (λ e. hash_begun b)
 
 -- the end of the bytes
 number_end_sound : (text : List ℕ) (s : NumberState) → read_number text ≡ Some s → IsSoundEnd text (number_end s)
