@@ -1,13 +1,12 @@
 -- The machine of tokens reads each list of tokens.
-use Rattle.std.proofs.Common.{◌≡◌, ◌≢◌, ℕ, ◌+◌, Bool, true, false, not, ◌&&◌, ◌||◌, ◌==◌, List, [], ◌∷◌, ◌++◌, length, All, codes, Option, Some, None, refl, sym, ap, ap₂, subst, ◌∙◌, arith, append_assoc, append-nil, add-zero, if◌then◌else◌, bytes_eq}
+use Rattle.std.proofs.Common.{◌≡◌, ◌≢◌, ℕ, ◌+◌, Bool, true, false, not, ◌&&◌, ◌==◌, List, [], ◌∷◌, ◌++◌, length, All, codes, Option, Some, None, refl, sym, ap, ap₂, subst, ◌∙◌, arith, append_assoc, append-nil, add-zero, if◌then◌else◌, bytes_eq}
 use Rattle.std.specs.Prelude.{ℤ, pos, ◌-◌}
-use Rattle.std.proofs.lemmas.Bool.{cases_eq, eqb-true, ne_eqb, false≢true, or_cases, true_from_ne_false, or_from}
+use Rattle.std.proofs.lemmas.Bool.{eqb-true, ne_eqb, or_from}
 use Rattle.std.proofs.lemmas.Bool.Decides.{nat_tests}
 use Rattle.std.proofs.lemmas.List.Elements.{All-head, All-tail}
 use Rattle.std.proofs.lemmas.Slice.Eq.{bytes_eq-Decides}
 use Rattle.std.specs.Char.{is_ascii_digit}
-use Rattle.std.specs.List.{AllPass}
-use Rattle.flux_atom.specs.declared.atom.Atom.TheVariants.{Text, Int as Whole}
+use Rattle.flux_atom.specs.declared.atom.Atom.TheVariants.{Int as Whole}
 use Rattle.flux_atom.specs.declared.number.NumberState.{NumberState}
 use Rattle.flux_atom.specs.declared.number.NumberState.TheVariants.{Minus, Digits}
 use Rattle.flux_atom.specs.declared.text.TextState.TheVariants.{Between}
@@ -22,9 +21,9 @@ use Rattle.flux_atom.proofs.TextLaws.{read_items}
 use Rattle.flux_grammar.specs.declared.token.TokenKind.{TokenKind}
 use Rattle.flux_grammar.specs.declared.token.TokenKind.TheVariants.{Word, Quoted, Var, Str, Number, Sign}
 use Rattle.flux_grammar.specs.declared.token.Token.{Token}
-use Rattle.flux_grammar.specs.Tokens.{AreTokens, EndsComment, EndsToken, IsToken, Lexed, ended, space, comment, token, signs, token_at}
-use Rattle.flux_grammar.specs.TokenSteps.{Stage, blank, remark, word, dollar, variable, opened, label, string, number, sign, closed, Move, goes_on, ends, stuck, begin_stage, is_longer_sign, is_quoted_truth, is_sign, move, number_move, number_stage, string_move, told}
-use Rattle.flux_grammar.proofs.TokenRuns.{IsEnd, and_moves, ends_anew, lexes, lexes_moves, lexes_over, moves, moves_append, moves_step}
+use Rattle.flux_grammar.specs.Tokens.{AreTokens, EndsComment, EndsToken, IsToken, Lexed, ended, space, comment, token, token_at}
+use Rattle.flux_grammar.specs.TokenSteps.{Stage, blank, remark, word, dollar, variable, opened, label, string, number, sign, closed, goes_on, ends, stuck, begin_stage, is_longer_sign, is_quoted_truth, is_sign, move, number_move, number_stage, string_move, told}
+use Rattle.flux_grammar.proofs.TokenRuns.{IsEnd, ends_anew, lexes, lexes_moves, lexes_over, moves, moves_append, moves_step}
 use Rattle.flux_grammar.proofs.TokenSigns.{IsShape, longer_first, longer_in, sign_begins, sign_no_number, sign_shape}
 
 -- from their first byte on, the bytes lead there
@@ -167,8 +166,8 @@ variable_read text (b ∷ name) rest is e over = record {
     split = e;
     begins = refl;
     reached =
-      moves_step dollar variable (36 ∷ []) b name (ap (λ t. if t then goes_on variable else stuck) is.0)
-      ∙ stays Continues variable variable_stays name (36 ∷ b ∷ []) is.1;
+        moves_step dollar variable (36 ∷ []) b name (ap (λ t. if t then goes_on variable else stuck) is.0)
+        ∙ stays Continues variable variable_stays name (36 ∷ b ∷ []) is.1;
   };
   over = variable_ends text rest over;
 }
@@ -205,9 +204,9 @@ quoted_read text name rest is e = by name refl is.0
         split = e ∙ ap (λ m. 39 ∷ (m ++ 39 ∷ [])) f;
         begins = refl;
         reached =
-          moves_step opened label (39 ∷ []) b (l ++ 39 ∷ []) (ap (λ t. if t then goes_on label else stuck) name_is.0)
-          ∙ moves_append label label (39 ∷ b ∷ []) l (39 ∷ []) (stays Continues label label_stays l (39 ∷ b ∷ []) name_is.1)
-          ∙ moves_step label (closed Quoted) (39 ∷ b ∷ l) 39 [] (label_closes (b ∷ l) (subst IsLabel f is));
+            moves_step opened label (39 ∷ []) b (l ++ 39 ∷ []) (ap (λ t. if t then goes_on label else stuck) name_is.0)
+            ∙ moves_append label label (39 ∷ b ∷ []) l (39 ∷ []) (stays Continues label label_stays l (39 ∷ b ∷ []) name_is.1)
+            ∙ moves_step label (closed Quoted) (39 ∷ b ∷ l) 39 [] (label_closes (b ∷ l) (subst IsLabel f is));
       };
       over = closed_ends Quoted text rest;
     }
@@ -222,8 +221,8 @@ string_read text items t rest are e = record {
     split = e;
     begins = refl;
     reached =
-      moves_append (string no_text) (string (Between, t)) (quote ∷ []) items (quote ∷ []) (text_moves items (quote ∷ []) no_text (Between, t) (read_items items t [] are))
-      ∙ moves_step (string (Between, t)) (closed Str) (quote ∷ items) quote [] refl;
+        moves_append (string no_text) (string (Between, t)) (quote ∷ []) items (quote ∷ []) (text_moves items (quote ∷ []) no_text (Between, t) (read_items items t [] are))
+        ∙ moves_step (string (Between, t)) (closed Str) (quote ∷ items) quote [] refl;
   };
   over = closed_ends Str text rest;
 }

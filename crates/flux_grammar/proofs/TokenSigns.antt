@@ -1,6 +1,6 @@
 -- Which bytes are signs, and how a reader of tokens meets them.
-use Rattle.std.proofs.Common.{◌≡◌, ℕ, Bool, true, false, ◌||◌, ◌&&◌, ◌==◌, ◌⊎◌, inl, inr, List, [], ◌∷◌, ◌++◌, All, codes, Contains, None, Some, refl, sym, ap, ap₂, subst, subst₂, ◌∙◌, arith}
-use Rattle.std.proofs.lemmas.Bool.{and_parts, eqb-true, or_cases, true≢false}
+use Rattle.std.proofs.Common.{◌≡◌, ℕ, true, ◌&&◌, ◌==◌, ◌⊎◌, inl, inr, List, [], ◌∷◌, All, codes, Contains, None, Some, refl, sym, ap, subst, subst₂, arith}
+use Rattle.std.proofs.lemmas.Bool.{and_parts, eqb-true, or_cases}
 use Rattle.std.proofs.lemmas.List.Elements.{All-contains, All-from_recursion}
 use Rattle.std.proofs.lemmas.List.Folds.{Any-from_list_any}
 use Rattle.flux_atom.specs.NumberSteps.{number_begin}

@@ -1,12 +1,11 @@
 -- What the machine of tokens reads is tokens, and each of its stages can end.
-use Rattle.std.proofs.Common.{◌≡◌, ◌≢◌, ℕ, ◌+◌, Bool, true, false, not, ◌&&◌, ◌||◌, ◌==◌, ◌⊎◌, inl, inr, List, [], ◌∷◌, ◌++◌, length, All, Contains, codes, Option, Some, None, refl, sym, ap, subst, ◌∙◌, arith, append_assoc, append-nil, add-zero, if◌then◌else◌, bytes_eq}
-use Rattle.std.specs.Prelude.{ℤ, negsuc}
-use Rattle.std.proofs.lemmas.Bool.{and_parts, eqb-true, eqb-false, false≢true, true≢false, or_from, or_parts}
+use Rattle.std.proofs.Common.{◌≡◌, ◌≢◌, ℕ, ◌+◌, Bool, true, false, not, ◌&&◌, ◌==◌, ◌⊎◌, inl, inr, List, [], ◌∷◌, ◌++◌, length, All, Contains, codes, Option, Some, None, refl, sym, ap, subst, ◌∙◌, arith, append_assoc, append-nil, add-zero, if◌then◌else◌, bytes_eq}
+use Rattle.std.specs.Prelude.{negsuc}
+use Rattle.std.proofs.lemmas.Bool.{and_parts, eqb-true, eqb-false, false≢true, or_from, or_parts}
 use Rattle.std.proofs.lemmas.List.{same_from_push}
 use Rattle.std.proofs.lemmas.List.Elements.{All-cons, All-head, All-nil, All-push, All-tail}
 use Rattle.std.proofs.lemmas.Slice.Eq.{bytes_eq-Decides}
 use Rattle.std.specs.Char.{is_ascii_digit}
-use Rattle.std.specs.List.{AllPass}
 use Rattle.flux_atom.specs.declared.number.NumberState.{NumberState}
 use Rattle.flux_atom.specs.declared.number.NumberState.TheVariants.{Minus, Digits}
 use Rattle.flux_atom.specs.declared.text.TextState.TheVariants.{Between}
@@ -24,7 +23,7 @@ use Rattle.flux_grammar.specs.Tokens.{EndsComment, EndsToken, IsToken, Lexed, en
 use Rattle.flux_grammar.specs.TokenSteps.{Stage, blank, remark, word, dollar, variable, opened, label, string, number, sign, closed, Move, goes_on, ends, stuck, begin_stage, end_move, is_longer_sign, is_quoted_truth, is_sign, move, number_end, number_move, number_stage, string_move, told}
 use Rattle.flux_grammar.proofs.TokenRuns.{begun, finished, lexes, lexes_moves, moved, moves, moves_append, moves_step}
 use Rattle.flux_grammar.proofs.TokenReads.{text_moves}
-use Rattle.flux_grammar.proofs.TokenSigns.{IsShape, longer_in, sign_in, sign_shape}
+use Rattle.flux_grammar.proofs.TokenSigns.{longer_in, sign_in, sign_shape}
 
 -- what a stage says of the bytes that are read of a token
 abbrev pub IsSound : Stage → List ℕ → Type 0
@@ -366,8 +365,8 @@ string_can_end r text items read =
       stage = closed Str;
       kind = Some Str;
       leads =
-        moves_append (string r) (string (Between, can.1)) text can.0 (quote ∷ []) (text_moves can.0 text r (Between, can.1) can.2)
-        ∙ moves_step (string (Between, can.1)) (closed Str) (text ++ can.0) quote [] refl;
+          moves_append (string r) (string (Between, can.1)) text can.0 (quote ∷ []) (text_moves can.0 text r (Between, can.1) can.2)
+          ∙ moves_step (string (Between, can.1)) (closed Str) (text ++ can.0) quote [] refl;
       over = refl;
     }
 
@@ -387,11 +386,10 @@ can_end (closed kind) text is = ends_here (closed kind) text (Some kind) refl
 -- a run can end wherever it is
 pub run_can_end : (ts : List Token) (from : ℕ) (s : Stage) (text : List ℕ) → IsSound s text → (more : List ℕ) × (us : List Token) × (lexes ts from s text more ≡ Some us)
 run_can_end ts from s text is =
-    let can = can_end s text is in
-    (
+    let can = can_end s text is in (
       can.more,
       told can.kind ts from (from + length (text ++ can.more)),
       ap (lexes ts from s text) (sym (append-nil can.more))
-      ∙ lexes_moves ts from s can.stage text can.more [] can.leads
-      ∙ ap (λ m. finished m ts from (text ++ can.more)) can.over,
+          ∙ lexes_moves ts from s can.stage text can.more [] can.leads
+          ∙ ap (λ m. finished m ts from (text ++ can.more)) can.over,
     )
