@@ -1,8 +1,13 @@
-//! The text of scripts: their tokens, by rules. Definitions and laws, and no code.
+//! The text of scripts: their tokens, what they are to the grammar, and what they read as, by
+//! rules. Definitions and laws, and hardly any code.
 #![tactic(auto)]
 
 mod laws;
+mod lexeme;
 mod token;
+mod tree;
 
 pub use laws::tokens_are_unique;
+pub use lexeme::{Keyword, Lexeme, Piece, Sign, Soft};
 pub use token::{Token, TokenKind};
+pub use tree::{Expr, ParamDef, Path, ProcDef, Script, Step, Stmt, TestText, TypeDef, TypeText};
