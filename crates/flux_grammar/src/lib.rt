@@ -7,7 +7,9 @@ mod lexeme;
 mod token;
 mod tree;
 
-pub use laws::tokens_are_unique;
+pub use laws::{
+    pieces_are_unique, prefixes_fit, readings_are_unique, readings_fit, tokens_are_unique,
+};
 pub use lexeme::{Keyword, Lexeme, Piece, Sign, Soft};
 pub use token::{Token, TokenKind};
 pub use tree::{Expr, ParamDef, Path, ProcDef, Script, Step, Stmt, TestText, TypeDef, TypeText};
