@@ -98,7 +98,7 @@ stands_below n (star t) y b s = stands_below n t y b s
 stands_below n (named x) y b s = subst (λ z. z < n) (sym s) b
 
 -- the body that a name leads by is its body
-leads_by : (bodies : ℕ → Option Ty) (x y : ℕ) (t : Ty) → bodies x ≡ Some t → Leads bodies x y → StandsIn y t
+pub leads_by : (bodies : ℕ → Option Ty) (x y : ℕ) (t : Ty) → bodies x ≡ Some t → Leads bodies x y → StandsIn y t
 leads_by bodies x y t e (u, f, s) = subst (StandsIn y) (same_Some u t (sym f ∙ e)) s
 
 pub searches_init : (bodies : ℕ → Option Ty) (n x : ℕ) (t : Ty) (start marks : List Bool) (none waiting : List ℕ) → bodies x ≡ Some t → NamesBelow n t → start ≡ replicate n false → none ≡ [] → length marks ≡ n → Visits t start marks none waiting → Searches bodies n x marks waiting

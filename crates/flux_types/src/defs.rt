@@ -1,5 +1,5 @@
 // Good definitions, and the one tree that a type stands for.
-ghost use Rattle.std.specs.Prelude.{◌≡◌, ◌<◌, ℕ, Some, length, slice_get, IfOk, IfSome, IfNone};
+ghost use Rattle.std.specs.Prelude.{◌≡◌, ◌<◌, ℕ, Some, All, length, slice_get, IfOk, IfSome, IfNone};
 ghost use Rattle.std.specs.Option.{option_map};
 ghost use Rattle.flux_schema.specs.Definitions.{body_of, IsGood};
 ghost use Rattle.flux_schema.specs.Fits.{MembershipComputes};
@@ -7,6 +7,7 @@ ghost use Rattle.flux_schema.specs.Single.{Single, IsNotSingle};
 ghost use Rattle.flux_types.specs.Read.{ty_of};
 ghost use Rattle.flux_types.specs.Kept.{definitions_of, AreKept, IsKnownAtTop};
 
+use crate::ranks::closing_order;
 use crate::{Ty, copy_of};
 use flux_atom::Name;
 use std::alloc::{AllocError, Global};
@@ -48,6 +49,15 @@ impl Defs {
     {
         let kept = copies(alloc, &self.kept)?;
         Ok(Defs { kept })
+    }
+
+    /// The indices in an order in which each comes after those that its body names outside
+    /// elements. It takes the time of going over the bodies once. Which indices there are, and in
+    /// which order, is a guess to begin with, and no promise.
+    pub fn order(&self, alloc: Global) -> Result<Vec<u32>, AllocError>
+        ensures { IfOk result (λ order. All (λ x. x < length self.now) order.items) }
+    {
+        closing_order(alloc, &self.kept)
     }
 
     pub(crate) fn over(kept: Vec<Kept>) -> Defs

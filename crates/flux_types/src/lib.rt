@@ -5,6 +5,7 @@ mod decider;
 mod defs;
 mod draft;
 mod indices;
+mod ranks;
 mod search;
 mod text;
 mod tidied;
