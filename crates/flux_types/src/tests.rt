@@ -410,7 +410,7 @@ fn a_name_of_a_name(rt: HostRuntime) -> Result<(), Fail> {
 #[tactic(auto, using(crate::proofs::KeptLaws::counts))]
 fn declare_many(rt: &impl Abort, alloc: Global, draft: &mut Draft, count: u32) -> Result<(), Fail>
     requires new { draft.old ≡ [] }
-    requires few { count ≤ 1000 }
+    requires few { count ≤ 2000 }
     ensures { OnOk result (length draft.new ≡ count) }
 {
     let mut names = Names::new(alloc);
@@ -433,15 +433,133 @@ fn chain(rt: &impl Abort, draft: &mut Draft, count: u32) -> Result<(), Fail>
     Ok(())
 }
 
+fn chain_down(rt: &impl Abort, draft: &mut Draft, count: u32) -> Result<(), Fail>
+    requires { length draft.old ≡ count + 1 }
+    ensures { OnOk result (length draft.new ≡ count + 1) }
+{
+    for i in 0..count {
+        set(rt, draft, i + 1, Ty::Named(i))?;
+    }
+    Ok(())
+}
+
+// Each of 2,000 names stands for the next one, and the last for the type.
+fn long_chain(rt: &impl Abort, alloc: Global, last: Ty) -> Result<Draft, Fail>
+    requires { NamesBelow 2000 (ty_of last) }
+    ensures { IfOk result (λ draft. length draft ≡ 2000) }
+{
+    let mut draft = Draft::new(alloc);
+    declare_many(rt, alloc, &mut draft, 2000)?;
+    chain(rt, &mut draft, 1999)?;
+    set(rt, &mut draft, 1999, last)?;
+    Ok(draft)
+}
+
 #[test]
-fn a_chain_of_a_thousand_names(rt: HostRuntime) -> Result<(), Fail> {
+fn a_chain_to_the_next_name(rt: HostRuntime) -> Result<(), Fail> {
+    let alloc = rt.alloc();
+    let draft = long_chain(&rt, alloc, Ty::Atom(AtomKind::Text))?;
+    let defs = draft.close()?;
+    assert_eq!(rt; defs.len(), 2000);
+    assert!(rt; matches!(single(&defs, &Ty::Named(0)), Some(Ty::Atom(AtomKind::Text))));
+    Ok(())
+}
+
+#[test]
+fn a_chain_to_the_name_before(rt: HostRuntime) -> Result<(), Fail> {
     let alloc = rt.alloc();
     let mut draft = Draft::new(alloc);
-    declare_many(&rt, alloc, &mut draft, 1000)?;
-    chain(&rt, &mut draft, 999)?;
-    set(&rt, &mut draft, 999, Ty::Atom(AtomKind::Text))?;
+    declare_many(&rt, alloc, &mut draft, 2000)?;
+    set(&rt, &mut draft, 0, Ty::Atom(AtomKind::Text))?;
+    chain_down(&rt, &mut draft, 1999)?;
     let defs = draft.close()?;
-    assert_eq!(rt; defs.len(), 1000);
-    assert!(rt; matches!(single(&defs, &Ty::Named(0)), Some(Ty::Atom(AtomKind::Text))));
+    assert_eq!(rt; defs.len(), 2000);
+    assert!(rt;
+        matches!(
+            single(&defs, &Ty::Named(1999)),
+            Some(Ty::Atom(AtomKind::Text))
+        )
+    );
+    Ok(())
+}
+
+#[test]
+fn a_cycle_behind_a_chain(rt: HostRuntime) -> Result<(), Fail> {
+    let alloc = rt.alloc();
+    // the last name leads back to 1500
+    let draft = long_chain(&rt, alloc, Ty::Named(1500))?;
+    assert!(rt; matches!(draft.close(), Err(DefFault::Unguarded { index: 1500 })));
+    Ok(())
+}
+
+#[test]
+fn two_cycles(rt: HostRuntime) -> Result<(), Fail> {
+    let alloc = rt.alloc();
+    let mut draft = Draft::new(alloc);
+    declare_many(&rt, alloc, &mut draft, 5)?;
+    // from 0 the cycle of 3 and 4 is met first
+    set(&rt, &mut draft, 0, Ty::Named(3))?;
+    set(&rt, &mut draft, 1, Ty::Named(2))?;
+    set(&rt, &mut draft, 2, Ty::Named(1))?;
+    set(&rt, &mut draft, 3, Ty::Named(4))?;
+    set(&rt, &mut draft, 4, Ty::Named(3))?;
+    assert!(rt; matches!(draft.close(), Err(DefFault::Unguarded { index: 1 })));
+    Ok(())
+}
+
+fn pair_of(alloc: Global, left: u32, right: u32) -> Result<Ty, AllocError>
+    requires left { left < 3 }
+    requires right { right < 3 }
+    ensures { IfOk result (λ made. NamesBelow 3 (ty_of made)) }
+{
+    let left = Boxed::new(alloc, Ty::Named(left))?;
+    Ok(Ty::Seq(left, Boxed::new(alloc, Ty::Named(right))?))
+}
+
+// Three names, the first and the second of which stand for pairs.
+fn pairs(rt: &impl Abort, alloc: Global, first: Ty, second: Ty, last: Ty) -> Result<Draft, Fail>
+    requires first { NamesBelow 3 (ty_of first) }
+    requires second { NamesBelow 3 (ty_of second) }
+    requires last { NamesBelow 3 (ty_of last) }
+{
+    let mut draft = Draft::new(alloc);
+    declare_many(rt, alloc, &mut draft, 3)?;
+    set(rt, &mut draft, 0, first)?;
+    set(rt, &mut draft, 1, second)?;
+    set(rt, &mut draft, 2, last)?;
+    Ok(draft)
+}
+
+#[test]
+fn names_that_are_named_twice(rt: HostRuntime) -> Result<(), Fail> {
+    let alloc = rt.alloc();
+    // X = Y,Y; Y = Z,Z; Z = bool
+    let first = pair_of(alloc, 1, 1)?;
+    let second = pair_of(alloc, 2, 2)?;
+    let draft = pairs(&rt, alloc, first, second, Ty::Atom(AtomKind::Bool))?;
+    assert_eq!(rt; draft.close()?.len(), 3);
+    // X = Y,Y; Y = Z,Z; Z = Y,Y
+    let first = pair_of(alloc, 1, 1)?;
+    let second = pair_of(alloc, 2, 2)?;
+    let last = pair_of(alloc, 1, 1)?;
+    let draft = pairs(&rt, alloc, first, second, last)?;
+    assert!(rt; matches!(draft.close(), Err(DefFault::Unguarded { index: 1 })));
+    Ok(())
+}
+
+#[test]
+fn a_cycle_with_a_way_out(rt: HostRuntime) -> Result<(), Fail> {
+    let alloc = rt.alloc();
+    // X = Z,Y; Y = Z,X; Z = bool
+    let first = pair_of(alloc, 2, 1)?;
+    let second = pair_of(alloc, 2, 0)?;
+    let draft = pairs(&rt, alloc, first, second, Ty::Atom(AtomKind::Bool))?;
+    assert!(rt; matches!(draft.close(), Err(DefFault::Unguarded { index: 0 })));
+    // X = Y,Z; Y = Z,Z; Z = Z,Y
+    let first = pair_of(alloc, 1, 2)?;
+    let second = pair_of(alloc, 2, 2)?;
+    let last = pair_of(alloc, 2, 1)?;
+    let draft = pairs(&rt, alloc, first, second, last)?;
+    assert!(rt; matches!(draft.close(), Err(DefFault::Unguarded { index: 1 })));
     Ok(())
 }
