@@ -128,7 +128,7 @@ fn long_scripts(rt: HostRuntime) -> Result<(), Fail> {
     ] {
         let mut script = Vec::new(alloc);
         script.push(first)?;
-        for _ in 0..1_000_000 {
+        for _ in 0..500_000 {
             script.push(byte)?;
         }
         assert!(rt; script.len() < 100_000_000);
