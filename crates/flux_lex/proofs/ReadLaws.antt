@@ -68,10 +68,10 @@ module _ (bytes : List ℕ) (place from : ℕ) (s : Stage) (ts : List Token) (re
       start = omega (arith, read.start);
       sound = subst (IsSound t) (sym longer_part) (goes_on_sound s t (part bytes from place) (get_or bytes place 0) read.sound e);
       runs = λ rest.
-        ap (lexes [] 0 blank []) (longer rest)
-        ∙ read.runs (get_or bytes place 0 ∷ rest)
-        ∙ lexes_on ts from s t (part bytes from place) (get_or bytes place 0) rest e
-        ∙ ap (λ l. lexes ts from t l rest) (sym longer_part);
+          ap (lexes [] 0 blank []) (longer rest)
+          ∙ read.runs (get_or bytes place 0 ∷ rest)
+          ∙ lexes_on ts from s t (part bytes from place) (get_or bytes place 0) rest e
+          ∙ ap (λ l. lexes ts from t l rest) (sym longer_part);
     }
 
     pub went_over : (k : Option TokenKind) (t : Stage) → move s (part bytes from place) (get_or bytes place 0) ≡ ends k → begin_stage (get_or bytes place 0) ≡ Some t → HasRead bytes (place + 1) place t (told k ts from place)
@@ -80,11 +80,11 @@ module _ (bytes : List ℕ) (place from : ℕ) (s : Stage) (ts : List Token) (re
       start = omega arith;
       sound = subst (IsSound t) (sym new_part) (begun_sound (get_or bytes place 0) t f);
       runs = λ rest.
-        ap (lexes [] 0 blank []) (longer rest)
-        ∙ read.runs (get_or bytes place 0 ∷ rest)
-        ∙ lexes_over ts from s t k (part bytes from place) (get_or bytes place 0) rest e f
-        ∙ ap (λ n. lexes (told k ts from n) n t (get_or bytes place 0 ∷ []) rest) part_length
-        ∙ ap (λ l. lexes (told k ts from place) place t l rest) (sym new_part);
+          ap (lexes [] 0 blank []) (longer rest)
+          ∙ read.runs (get_or bytes place 0 ∷ rest)
+          ∙ lexes_over ts from s t k (part bytes from place) (get_or bytes place 0) rest e f
+          ∙ ap (λ n. lexes (told k ts from n) n t (get_or bytes place 0 ∷ []) rest) part_length
+          ∙ ap (λ l. lexes (told k ts from place) place t l rest) (sym new_part);
     }
 
   -- what is read begins tokens

@@ -42,7 +42,7 @@ pub(crate) fn type_of<D: Decider>(
     requires query_lacks { QueryLacks (D.unnamed decider.old) (query_of query.now) }
     ensures answer { let defs = D.definitions decider.old in
         IsAnswer (IsEvidence defs (D.unnamed decider.old))
-            (Types defs (of_query gamma.old (query_of query.now))) result }
+        (Types defs (of_query gamma.old (query_of query.now))) result }
     ensures left { Leaves D.definitions D.unnamed D.keeps D.known decider.old decider.new
         gamma.old gamma.new }
 {
@@ -95,7 +95,7 @@ fn type_all<D: Decider>(
     requires queries_lacks { QueryLacks (D.unnamed decider.old) (queries_of span queries.now) }
     ensures answer { let defs = D.definitions decider.old in
         IsAnswer (IsEvidence defs (D.unnamed decider.old))
-            (Types defs (of_query gamma.old (queries_of span queries.now))) result }
+        (Types defs (of_query gamma.old (queries_of span queries.now))) result }
     ensures left { Leaves D.definitions D.unnamed D.keeps D.known decider.old decider.new
         gamma.old gamma.new }
 {
@@ -387,7 +387,7 @@ fn type_trees<D: Decider>(
     ensures answer { let defs = D.definitions decider.old in
         let returned = returning gamma.old step.now.var (query_of step.now.body.now) in
         IsAnswer (IsEvidence defs (D.unnamed decider.old))
-            (Types defs (of_map step.now.span.from returned (ty_of ty))) result }
+        (Types defs (of_map step.now.span.from returned (ty_of ty))) result }
     ensures left { Leaves D.definitions D.unnamed D.keeps D.known decider.old decider.new
         gamma.old gamma.new }
 {

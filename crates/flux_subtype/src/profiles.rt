@@ -12,8 +12,9 @@ use std::marker::Model;
 
 /// Decides inclusion by an automaton of both types: it finds the sets of states that forests can
 /// have, until one has the left type's state and lacks the right one's, or none is new. Types that
-/// have one state, as equal ones do, take no search. It remembers nothing. The time may be exponential in the sizes of the types, and the forest that
-/// is answered may be exponentially large.
+/// have one state, as equal ones do, take no search. It remembers nothing. The time may be
+/// exponential in the sizes of the types, and the forest that is answered may be exponentially
+/// large.
 #[derive(Drop)]
 pub struct Profiles<'d> {
     defs: &'d Defs,

@@ -30,7 +30,7 @@ returns-in_default-end c =
     record {
       ok = tt;
       fault = subst (IsLexFault c.args.bytes.now) (ap Bad whole ∙ sym c.bad-in_default-end.ensures)
-        (unended c.args.bytes.now c.loop-place.place c.loop-place.from (stage_of c.loop-place.state) c.loop-place.tokens c.loop-place.invariant whole c.end.result c.in_default-end.not-Ends c.end.ensures);
+          (unended c.args.bytes.now c.loop-place.place c.loop-place.from (stage_of c.loop-place.state) c.loop-place.tokens c.loop-place.invariant whole c.end.result c.in_default-end.not-Ends c.end.ensures);
     }
 
 pub returns-clause-ok : goal.returns-clause-ok

@@ -17,8 +17,8 @@ loop-index-preserved c =
     let at = c.index-kept-index in
     below_more (λ x. (y : ℕ) → Leads (body_of (definitions_of kept)) x y → rank y ≤ rank x) i c.loop-index.invariant
     (λ y l.
-        let lt : rank y < c.saturating_add-bound.result = steps_below rank (body_of (definitions_of kept)) _ i y _ (kept_here kept i at.result c.loop-index-test.true at.is) (c.are_below.ensures.0 c.if-not-are_below.false) l in
-        omega (arith, lt, c.rank_of.ensures, c.saturating_add-bound.ensures))
+    let lt : rank y < c.saturating_add-bound.result = steps_below rank (body_of (definitions_of kept)) _ i y _ (kept_here kept i at.result c.loop-index-test.true at.is) (c.are_below.ensures.0 c.if-not-are_below.false) l in
+    omega (arith, lt, c.rank_of.ensures, c.saturating_add-bound.ensures))
 
 pub returns : goal.returns
 returns c = λ t x y l. c.loop-index.invariant x (omega (arith, body_within (definitions_of c.args.kept.now) x l.0 l.1, length-definitions c.args.kept.now, c.loop-index-test.false)) y l
