@@ -1,5 +1,5 @@
 -- How far the tokens of bytes are read.
-use Rattle.std.proofs.Common.{◌≡◌, ℕ, suc, ◌+◌, ◌-◌, ◌<◌, ◌≤◌, List, [], ◌∷◌, ◌++◌, length, take, drop, get_or, Option, Some, None, refl, sym, ap, ap₂, subst, ◌∙◌, arith, append_assoc, append-nil, length-drop, length-take-le, get_or-drop, take-append-drop, take_all, take_at}
+use Rattle.std.proofs.Common.{◌≡◌, ℕ, suc, ◌+◌, ◌-◌, ◌<◌, ◌≤◌, List, [], ◌∷◌, ◌++◌, length, take, drop, get_or, Option, Some, None, refl, sym, ap, subst, ◌∙◌, arith, append_assoc, append-nil, length-drop, length-take-le, get_or-drop, take-append-drop, take_all}
 use Rattle.std.proofs.lemmas.List.{drop_more, take_more}
 use lib.Seq.{take-append-add}
 use Rattle.flux_grammar.specs.declared.token.TokenKind.{TokenKind}

@@ -1,5 +1,5 @@
 -- What a reader of strings that takes a byte says of the step of tokens.
-use Rattle.std.proofs.Common.{◌≡◌, ℕ, ◌++◌, Option, Some, None, sym, ap}
+use Rattle.std.proofs.Common.{◌≡◌, ℕ, ◌++◌, Some, sym, ap}
 use Rattle.flux_atom.specs.TextSteps.{TextStep, on, closes, misfits, text_step, TextRead, read_on}
 use Rattle.flux_grammar.specs.TokenSteps.{string, goes_on, string_move}
 

@@ -167,7 +167,6 @@ fn in_text(mut reader: TextReader, byte: u8) -> Result<Move, AllocError>
     }
 }
 
-// A number ends before the first byte that is no digit.
 fn in_number(number: NumberState, byte: u8) -> Move
     ensures { move_of result
         ≡ number_move number (number_step number byte) (is_ascii_digit byte) }
@@ -178,6 +177,7 @@ fn in_number(number: NumberState, byte: u8) -> Move
     }
 }
 
+// A number ends before the first byte that is no digit.
 fn behind_number(number: NumberState, byte: u8) -> Move
     ensures { move_of result ≡ (if is_ascii_digit byte then stuck else number_end number) }
 {

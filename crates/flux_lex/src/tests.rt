@@ -1,3 +1,4 @@
+// What no clause says: that calls succeed, with tokens and places worked out by hand.
 use crate::{LexFault, TokenKind, lex};
 use std::alloc::Global;
 use std::process::Abort;
@@ -116,23 +117,33 @@ fn open_strings(rt: HostRuntime) -> Result<(), Fail> {
     Ok(())
 }
 
+// How many tokens a script has, or where it stops beginning any.
+fn counted(rt: &impl Abort, alloc: Global, script: &[u8]) -> Result<usize, Fail> {
+    assert!(rt; script.len() < 100_000_000);
+    match lex(alloc, script) {
+        Ok(tokens) => Ok(tokens.as_slice().len()),
+        Err(LexFault::Bad { place }) => Ok(place as usize),
+        Err(LexFault::Memory(error)) => Err(error.into()),
+    }
+}
+
 #[test]
 fn long_scripts(rt: HostRuntime) -> Result<(), Fail> {
     let alloc = rt.alloc();
-    for (first, byte) in [
-        (b'"', b'a'),
-        (b'#', b'"'),
-        (b'a', b'.'),
-        (b':', b','),
-        (b'\n', b' '),
+    for (first, byte, wanted) in [
+        // a string that isn't closed, a comment, a name, signs, white space
+        (b'"', b'a', 500_001),
+        (b'#', b'"', 0),
+        (b'a', b'.', 1),
+        (b':', b',', 500_001),
+        (b'\n', b' ', 0),
     ] {
         let mut script = Vec::new(alloc);
         script.push(first)?;
         for _ in 0..500_000 {
             script.push(byte)?;
         }
-        assert!(rt; script.len() < 100_000_000);
-        let _answer = lex(alloc, &script);
+        assert_eq!(rt; counted(&rt, alloc, &script)?, wanted);
     }
     Ok(())
 }
