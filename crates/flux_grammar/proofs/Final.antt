@@ -1,6 +1,7 @@
 -- From runs of the machine to readings, for a part behind which nothing stands.
 use Rattle.std.proofs.Common.{◌≡◌, ℕ, List, [], ◌∷◌, ◌++◌, length, Option, Some, None, refl, sym, ap, subst, arith, append_assoc, length-append}
 use Rattle.std.proofs.lemmas.List.{append-nil}
+use Rattle.std.proofs.lemmas.Option.{same_Some}
 use Rattle.flux_grammar.specs.declared.lexeme.Piece.{Piece}
 use Rattle.flux_grammar.specs.declared.tree.Expr.{Expr}
 use Rattle.flux_grammar.specs.declared.tree.Script.{Script}
@@ -23,9 +24,6 @@ whole p = call p (λ v. done p v)
 abbrev pub Faithful : Part → Type 0
 Faithful p = (t u : Value p) → accepts p t ≡ accepts p u → t ≡ u
 
-some_inside : {A : Type 0} (a b : A) → Some a ≡ Some b → a ≡ b
-some_inside a b e = cc
-
 abbrev type_in : Outcome → Option TypeText
 type_in (accepts (type d) t) = Some t
 type_in _ = None
@@ -39,13 +37,13 @@ script_in (accepts script t) = Some t
 script_in _ = None
 
 same_type : Faithful (type 0)
-same_type t u e = some_inside t u (ap type_in e)
+same_type t u e = same_Some t u (ap type_in e)
 
 same_query : Faithful (expr 0)
-same_query t u e = some_inside t u (ap query_in e)
+same_query t u e = same_Some t u (ap query_in e)
 
 same_script : Faithful script
-same_script t u e = some_inside t u (ap script_in e)
+same_script t u e = same_Some t u (ap script_in e)
 
 none_left : (s : State) → head s ≡ None → s ≡ state (end s) []
 none_left (state e []) h = refl
@@ -61,9 +59,10 @@ run_of : (p : Part) → Ends p None → (w : Option ℕ) (s : State) (e : ℕ) (
 run_of p ends w s e t r =
     complete r ends (λ t. done p t) (accepts p t) (runs-done refl)
 
-is_read : (p : Part) → Faithful p → (ps : List Piece) (t : Value p) →
+-- where the machine accepts, the tree is read
+pub accepted : (p : Part) → Faithful p → (ps : List Piece) (t : Value p) →
     Runs None (whole p) (state 0 ps) (accepts p t) → IsRead p ps t
-is_read p same ps t run = of_read (read_of p None (state 0 ps) (accepts p t) (sound run p t refl))
+accepted p same ps t run = of_read (read_of p None (state 0 ps) (accepts p t) (sound run p t refl))
   where
     of_read :
         (u : Value p) × (e : ℕ) × Reads None p (state 0 ps) (state e []) u × (accepts p u ≡ accepts
@@ -142,8 +141,3 @@ faulted p ends ps s' size place at run = of_located (locate run s' refl)
           run);
       there = at;
     }
-
--- where it accepts, the tree is read
-pub accepted : (p : Part) → Faithful p → (ps : List Piece) (t : Value p) →
-    Runs None (whole p) (state 0 ps) (accepts p t) → IsRead p ps t
-accepted p same ps t run = is_read p same ps t run

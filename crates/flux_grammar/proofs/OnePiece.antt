@@ -21,7 +21,7 @@ use Rattle.flux_grammar.specs.declared.lexeme.Soft.{Soft as SoftWord}
 use Rattle.flux_grammar.specs.declared.lexeme.Soft.TheVariants as soft
 use Rattle.flux_grammar.specs.declared.token.Token.{Token}
 use Rattle.flux_grammar.specs.declared.token.TokenKind.{TokenKind}
-use Rattle.flux_grammar.specs.Lexemes.{keyword_text, soft_text, sign_text, IsName, IsLexeme, a_reserved, a_truth, a_soft, a_word, a_quoted, a_variable, a_string, a_number, a_sign, ArePieces, no_pieces, more_pieces, PiecesAreUnique}
+use Rattle.flux_grammar.specs.Lexemes.{keyword_text, soft_text, sign_text, NamesText, IsLexeme, a_reserved, a_truth, a_soft, a_word, a_quoted, a_variable, a_string, a_number, a_sign, ArePieces, no_pieces, more_pieces, PiecesAreUnique}
 
 -- ---- words that the language knows
 
@@ -270,7 +270,7 @@ one_variable : (text a b : List ℕ) → text ≡ codes "$" ++ a → text ≡ co
 one_variable text a b e f = tails 36 36 a b (sym e ∙ f)
 
 one_name : (texts : List (List ℕ)) (i j : ℕ) (a b : List ℕ) → IsTable texts → a ≡ b →
-    IsName texts i a → IsName texts j b → i ≡ j
+    NamesText texts i a → NamesText texts j b → i ≡ j
 one_name texts i j a b table same f g = table.differ i j a f (g ∙ ap Some (sym same))
 
 one_lexeme : {texts : List (List ℕ)} {kind : TokenKind} {text : List ℕ} {l m : Lexeme} →

@@ -84,9 +84,9 @@ sign_text sign.Question = codes "?"
 sign_text sign.Bar = codes "|"
 sign_text sign.Dot = codes "."
 
--- the name that stands under a number in the table
-abbrev pub IsName : List (List ℕ) → ℕ → List ℕ → Type 0
-IsName texts n text = slice_get texts n ≡ Some text
+-- the table has the text under the number
+abbrev pub NamesText : List (List ℕ) → ℕ → List ℕ → Type 0
+NamesText texts n text = slice_get texts n ≡ Some text
 
 -- a word that is one of the soft words
 abbrev pub IsSoft : List ℕ → Type 0
@@ -99,14 +99,14 @@ pub data IsLexeme (texts : List (List ℕ)) : TokenKind → List ℕ → Lexeme 
       text ≡ keyword_text k → IsLexeme texts token.Word text (Reserved k)
   a_truth : {text : List ℕ} (b : Bool) →
       text ≡ literal (Truth b) → IsLexeme texts token.Word text (Literal (Truth b))
-  a_soft : {text : List ℕ} {n : ℕ} (s : SoftWord) → text ≡ soft_text s → IsName texts n text →
+  a_soft : {text : List ℕ} {n : ℕ} (s : SoftWord) → text ≡ soft_text s → NamesText texts n text →
       IsLexeme texts token.Word text (Soft s n)
   a_word : {text : List ℕ} {n : ℕ} → is_reserved text ≡ false → ¬ (IsSoft text) →
-      IsName texts n text → IsLexeme texts token.Word text (Word n)
+      NamesText texts n text → IsLexeme texts token.Word text (Word n)
   a_quoted : {text : List ℕ} {n : ℕ} (label : List ℕ) → text ≡ codes "'" ++ (label ++ codes "'") →
-      IsName texts n label → IsLexeme texts token.Quoted text (Quoted n)
+      NamesText texts n label → IsLexeme texts token.Quoted text (Quoted n)
   a_variable : {text : List ℕ} {n : ℕ} (name : List ℕ) → text ≡ codes "$" ++ name →
-      IsName texts n name → IsLexeme texts token.Var text (Var n)
+      NamesText texts n name → IsLexeme texts token.Var text (Var n)
   a_string : {text chars : List ℕ} →
       IsLiteral text (Text chars) → IsLexeme texts token.Str text (Literal (Text chars))
   a_number : {text : List ℕ} {z : ℤ} →
