@@ -15,6 +15,7 @@ use Rattle.flux_auto.specs.Takes.{EdgesBelow}
 use Rattle.flux_auto.specs.Standing.{In, at, lists, FollowsAny, Ready, IsTableLabel, LabelsStand, EdgesLabelled}
 use Rattle.flux_auto.specs.Built.{Grows, IsSet, IsEven, IsGround, IsOwn, IsClosed, OwnFrom, FreshFrom, NoNewLabels, Linear, ClosedBelow, Awaits, Filled, Closed}
 use Rattle.flux_auto.proofs.Lists.{in-cons, starts-in, skips-in, starts-full}
+use Rattle.flux_atom.proofs.Plain.{same_or_not}
 use Rattle.flux_auto.proofs.Items.{some_is, get-append}
 use Rattle.flux_auto.proofs.Tables.{at-cell, edges-append, any-left, any-right, any-cases, labelled-append, IsOwn-grows, IsClosed-grows, IsFresh-grows}
 use Rattle.flux_auto.proofs.Growing.{below_or_not, grows_by, grows_same, carried}
@@ -203,12 +204,6 @@ module _ (defs : Definitions) where
     ];
     labels = λ k h. x.labels k (y.labels k h);
   }
-    where
-      same_or_not : (s i : ℕ) → (s ≡ i) ⊎ (s ≡ i → ⊥)
-      same_or_not zero zero = inl refl
-      same_or_not zero (suc i) = inr (λ e. omega (arith, e))
-      same_or_not (suc s) zero = inr (λ e. omega (arith, e))
-      same_or_not (suc s) (suc i) = elim (same_or_not s i) [ inl e ↦ inl (ap suc e) | inr f ↦ inr (λ e. f (omega (arith, e))) ]
 
   pub fills_ends : (n m i : ℕ) (a b : Table) → m ≤ i → Fills n m i a b → OwnFrom defs n b
   fills_ends n m i a b le x s r lt e = x.own s r lt (elim (below_or_not s m) [ inl l ↦ inl (omega (arith, l, le)) | inr l ↦ inr l ]) e

@@ -186,7 +186,3 @@ work_open outer now o all inner one e is f g =
 
 pub work_close : (outer inner : List Open) (o : Open) (all : List View) → outer ≡ inner ++ o ∷ [] → work inner o.trees.items < work outer all
 work_close outer inner o all f = omega (arith, ap left f, left-last inner o)
-
-pub none_items : {A : Type 0} (xs : List A) → length xs ≡ 0 → xs ≡ []
-none_items [] e = refl
-none_items (x ∷ xs) e = absurd (omega (arith, e))

@@ -30,9 +30,3 @@ get-set_other (y ∷ xs) zero zero x ne = absurd (ne refl)
 get-set_other (y ∷ xs) zero (suc j) x ne = refl
 get-set_other (y ∷ xs) (suc i) zero x ne = refl
 get-set_other (y ∷ xs) (suc i) (suc j) x ne = get-set_other xs i j x (λ e. ne (ap suc e))
-
-pub same_or_not : (i j : ℕ) → (i ≡ j) ⊎ (i ≡ j → ⊥)
-same_or_not zero zero = inl refl
-same_or_not zero (suc j) = inr (λ e. omega (arith, e))
-same_or_not (suc i) zero = inr (λ e. omega (arith, e))
-same_or_not (suc i) (suc j) = elim (same_or_not i j) [ inl e ↦ inl (ap suc e) | inr ne ↦ inr (λ e. ne (omega (arith, e))) ]

@@ -24,6 +24,7 @@ use Rattle.flux_auto.proofs.Lists.{alone-in, in-alone}
 use Rattle.flux_auto.proofs.Tables.{at-grows}
 use Rattle.flux_auto.proofs.Growing.{carried}
 use Rattle.flux_auto.proofs.Reading.{content-list}
+use Rattle.flux_atom.proofs.Plain.{same_tests}
 
 pub got : {A : Type 0} (xs : List A) (s : ℕ) → s < length xs → (x : A) × (slice_get xs s ≡ Some x)
 got [] s h = absurd (omega (arith, h))
@@ -127,11 +128,6 @@ module _ (defs : Definitions) (names : List Bool) (a : Table) (whole : IsComplet
   pub content_within : (s : ℕ) (t : Ty) → IsContent a.cells.items s t → s < length (states_of a)
   content_within s t k = omega (arith, slice_get_within a.cells.items s k.cell k.is, whole.ground.even, length-map state_of a.rows.items)
 
-same_bool : (a b : Bool) → (a ≡ true → b ≡ true) → (b ≡ true → a ≡ true) → a ≡ b
-same_bool true b f g = sym (f refl)
-same_bool false true f g = g refl
-same_bool false false f g = refl
-
 get-map_as : {A B : Type 0} (f : A → B) (xs ys : List A) (s : ℕ) → slice_get ys s ≡ slice_get xs s → s < length xs → slice_get (map f ys) s ≡ slice_get (map f xs) s
 get-map_as f xs ys s e lt = let x = got xs s lt in get-map f ys s x.0 (e ∙ x.1) ∙ sym (get-map f xs s x.0 x.1)
 
@@ -145,5 +141,5 @@ states_kept defs names a b x y g = record {
       let list : at (lists b.cells.items) s ≡ at (lists a.cells.items) s = carried (λ l. at (lists l) s ≡ at (lists a.cells.items) s) (length a.rows.items) a b g (λ more. at-grows a.cells.items more s in_a) in
       let t = profile_tells defs names a x v s in_a in
       let u = profile_tells defs names b y v s in_b in
-      same_bool (takes (states_of b) s v) (takes (states_of a) s v) (λ e. t.1 (subst (In defs v) list (u.0 e))) (λ e. u.1 (subst (In defs v) (sym list) (t.0 e)));
+      same_tests (takes (states_of b) s v) (takes (states_of a) s v) (λ e. t.1 (subst (In defs v) list (u.0 e))) (λ e. u.1 (subst (In defs v) (sym list) (t.0 e)));
 }

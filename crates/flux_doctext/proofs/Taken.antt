@@ -97,10 +97,6 @@ entered names a s d e table below is begins = record {
 }
 
 -- a name goes on
-pub name_on : (text : List ℕ) (b : ℕ) → IsName text → continues_name b ≡ true → IsName (text ++ b ∷ [])
-name_on [] b is more = absurd is
-name_on (a ∷ text) b is more =
-    (is.0, All-push (λ c. continues_name c ≡ true) text b is.1 more)
 
 pub named_byte : (b : ℕ) (s : Sign) → s ≡ sign_of b → (s ≡ Letter) ⊎ (s ≡ Digit) → continues_name b ≡ true
 named_byte b s is (inl e) = named_continues b (subst IsNamed (sym e ∙ is) tt)

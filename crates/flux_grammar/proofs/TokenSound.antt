@@ -14,7 +14,8 @@ use Rattle.flux_atom.specs.Names.{begins_name, continues_name, IsName}
 use Rattle.flux_atom.specs.NumberSteps.{number_begin, number_from, number_step, read_number}
 use Rattle.flux_atom.specs.Space.{is_space, IsSpace}
 use Rattle.flux_atom.specs.TextSteps.{TextStep, on, closes, misfits, text_step, TextRead, and_read, no_text, read_on, read_text}
-use Rattle.flux_atom.proofs.NumberLaws.{number_from-append, says}
+use Rattle.flux_atom.proofs.Plain.{name_push}
+use Rattle.flux_atom.proofs.NumberLaws.{read_push, says}
 use Rattle.flux_atom.proofs.TextLaws.{closes_at_quote, items_read, read_then, text_can_end}
 use Rattle.flux_grammar.specs.declared.token.TokenKind.{TokenKind}
 use Rattle.flux_grammar.specs.declared.token.TokenKind.TheVariants.{Word, Quoted, Var, Str, Number, Sign}
@@ -68,10 +69,6 @@ either : {A : Type 0} (P : A → Type 0) (t : Bool) (x y : A) → (t ≡ true �
 either P true x y passed failed = passed refl
 either P false x y passed failed = failed refl
 
-name_push : (name : List ℕ) (b : ℕ) → IsName name → continues_name b ≡ true → IsName (name ++ b ∷ [])
-name_push [] b name e = absurd name
-name_push (a ∷ name) b is e = (is.0, All-push (λ c. continues_name c ≡ true) name b is.1 e)
-
 name_one : (b : ℕ) → begins_name b ≡ true → IsName (b ∷ [])
 name_one b e = (e, All-nil (λ c. continues_name c ≡ true))
 
@@ -91,16 +88,12 @@ string_sound text items r b read e closes step =
     ((r.1, (items, are, ap (λ l. l ++ b ∷ []) e ∙ ap (λ c. quote ∷ (items ++ c ∷ [])) at_quote.1)), λ rest. tt)
 string_sound text items r b read e misfits step = tt
 
-number_push : (text : List ℕ) (s : NumberState) (b : ℕ) → read_number text ≡ Some s → read_number (text ++ b ∷ []) ≡ number_step s b
-number_push [] s b e = absurd cc
-number_push (c ∷ text) s b e = number_from-append (number_begin c) text (b ∷ []) ∙ ap (λ x. number_from x (b ∷ [])) e
-
 number_over : (text : List ℕ) (s : NumberState) (b : ℕ) → read_number text ≡ Some s → is_ascii_digit b ≡ false → IsSoundMove text b (number_end s)
 number_over text Minus b read e = tt
 number_over text (Digits z) b read e = λ rest. ((z, says text (Digits z) read), e)
 
 number_sound : (text : List ℕ) (s : NumberState) (b : ℕ) → read_number text ≡ Some s → (x : Option NumberState) → number_step s b ≡ x → IsSoundMove text b (number_move s x (is_ascii_digit b))
-number_sound text s b read (Some next) step = number_push text s b read ∙ step
+number_sound text s b read (Some next) step = read_push text b s read ∙ step
 number_sound text s b read None step =
     either (IsSoundMove text b) (is_ascii_digit b) stuck (number_end s) (λ e. tt) (λ e. number_over text s b read e)
 

@@ -4,6 +4,7 @@ use Rattle.std.proofs.Math.ListN.{set}
 use Rattle.std.proofs.lemmas.Option.{slice_get_within}
 use Rattle.flux_atom.specs.declared.atom.AtomKind.{AtomKind}
 use Rattle.flux_atom.specs.declared.atom.AtomKind.TheVariants as kind
+use Rattle.flux_atom.proofs.Plain.{same_or_not}
 use Rattle.flux_auto.specs.declared.edge.Edge.{Edge}
 use Rattle.flux_auto.specs.declared.edge.Edge.TheVariants.{Atom, Elem, AnyElem}
 use Rattle.flux_auto.specs.Takes.{State, has}
@@ -13,7 +14,7 @@ use Rattle.flux_subtype.specs.declared.index.Group.{Group}
 use Rattle.flux_subtype.specs.declared.index.Index.{Index}
 use Rattle.flux_subtype.specs.Going.{Has, HasEdge, IsEdgeLabel}
 use Rattle.flux_subtype.specs.Index.{Moves, Links, HasLink, HasGroup, moves_of, Listed, Differ, AreWide, AreWideLinks, AreWideGroups, IsWide, AddsMove, AddsLink, FindsLink, FindsGroup, AddsEdge, AddsEdges, IndexesBelow, Indexes, IndexesElements, Follows, ByLinks}
-use Rattle.flux_auto.proofs.Items.{get-end, get-set_here, get-set_other, some_is, same_or_not}
+use Rattle.flux_auto.proofs.Items.{get-end, get-set_here, get-set_other, some_is}
 use Rattle.flux_subtype.proofs.Items.{get-push, below_or_at, has-append, has-last, has-push, has-nil, has-right, has-split, has-set, set-has}
 
 -- ---- moves

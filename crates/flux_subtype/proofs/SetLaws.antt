@@ -8,8 +8,8 @@ use Rattle.std.proofs.lemmas.Grind.{get_or_default_zero}
 use Rattle.std.proofs.lemmas.Nat.{or_lt}
 use Rattle.std.proofs.lemmas.Nat.Bits.{bit_at-lt, bit_at-zero, shr_and_one, bit_at_or, bit_at_set_same, bit_at_set_other, same_from_bits_below}
 use Rattle.std.proofs.lemmas.Bool.{false_from_ne_true}
+use Rattle.flux_atom.proofs.Plain.{same_or_not}
 use Rattle.flux_auto.specs.Takes.{has}
-use Rattle.flux_auto.proofs.Items.{same_or_not}
 use Rattle.flux_auto.proofs.Growing.{below_or_not}
 use Rattle.flux_subtype.specs.Set.{flag, flags, IsPacked, Joins}
 

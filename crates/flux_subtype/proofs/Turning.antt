@@ -3,6 +3,7 @@ use Rattle.std.proofs.Common.{◌≡◌, ◌⊎◌, ◌↔◌, ℕ, zero, suc, �
 use Rattle.std.specs.Option.{option_map}
 use Rattle.std.proofs.lemmas.Option.{slice_get_within}
 use Rattle.flux_trees.specs.Hedge.{nil, elem, leaf}
+use Rattle.flux_atom.proofs.Plain.{same_or_not}
 use Rattle.flux_auto.specs.declared.edge.Edge.{Edge}
 use Rattle.flux_auto.specs.Takes.{State, has, takes}
 use Rattle.flux_auto.proofs.Recipes.{kind_of-sample}
@@ -18,7 +19,7 @@ use Rattle.flux_subtype.specs.Index.{HasLink, HasGroup, Follows, AreWide, AreWid
 use Rattle.flux_auto.specs.Witness.{sample}
 use Rattle.flux_subtype.specs.Kept.{set_of, made, forests_after, forest_at, set_at, IsRecipeLabel, IsKeptLabel, NamesEarlier, AreKept, Grows, Keeps}
 use Rattle.flux_subtype.specs.Search.{Fires, IsSilent, MovesBy, AreTrees, Stands, TreesGrow, AddsTree, IsHeadLabel, IsTreeLabel, IsShown, IsUsed, IsElementOf, AddsElements, LabelsDone, Answered, AllAnswered, AnsweredBelow, recipe_of, Puts, Fills, FillsAll, IsDone, Turned}
-use Rattle.flux_auto.proofs.Items.{some_is, same_or_not}
+use Rattle.flux_auto.proofs.Items.{some_is}
 use Rattle.flux_subtype.proofs.Items.{read_is, get-push, has-last, has-push, has-nil, below_or_at, grows-refl, grows-trans, grows-length, grows-get, grows-has}
 use Rattle.flux_subtype.proofs.GoingLaws.{element_moves, fires_profile}
 use Rattle.flux_subtype.proofs.IndexLaws.{no_group}

@@ -4,6 +4,7 @@ use Rattle.std.proofs.lemmas.Option.{same_Some}
 use Rattle.std.proofs.Math.ListN.{set}
 use Rattle.flux_types.specs.Indices.{index_in, Locates}
 use Rattle.flux_types.proofs.KeptLaws.{get-push}
+use Rattle.flux_atom.proofs.Plain.{same_or_not}
 
 pub index_in-push : (ps : List (Option ℕ)) (n : ℕ) → index_in (ps ++ None ∷ []) n ≡ index_in ps n
 index_in-push [] zero = refl
@@ -25,12 +26,6 @@ index_in-other (q ∷ ps) (suc n) (suc m) p ne = index_in-other ps n m p (λ e. 
 
 pub locates-same : (ps qs : List (Option ℕ)) (ns : List ℕ) → ((n : ℕ) → index_in qs n ≡ index_in ps n) → Locates ps ns → Locates qs ns
 locates-same ps qs ns same l n x = ((λ e. (l n x).0 (sym (same n) ∙ e)), (λ e. same n ∙ (l n x).1 e))
-
-same_or_not : (i j : ℕ) → (i ≡ j) ⊎ (i ≡ j → ⊥)
-same_or_not zero zero = inl refl
-same_or_not zero (suc j) = inr (λ e. omega (arith, e))
-same_or_not (suc i) zero = inr (λ e. omega (arith, e))
-same_or_not (suc i) (suc j) = elim (same_or_not i j) [ inl e ↦ inl (ap suc e) | inr ne ↦ inr (λ e. ne (omega (arith, e))) ]
 
 get_front : (ns : List ℕ) (n x m : ℕ) → slice_get ns x ≡ Some m → slice_get (ns ++ n ∷ []) x ≡ Some m
 get_front [] n x m e = cc

@@ -159,7 +159,3 @@ pub marked_read : (marks : List Bool) (i : ℕ) (b : Bool) → i < length marks 
 marked_read [] i b lt e = absurd (omega (arith, lt))
 marked_read (m ∷ marks) zero b lt e = (λ t. sym e ∙ t, λ t. e ∙ t)
 marked_read (m ∷ marks) (suc i) b lt e = marked_read marks i b (omega (arith, lt)) e
-
-pub nil_of : {A : Type 0} (xs : List A) → length xs ≡ 0 → xs ≡ []
-nil_of [] e = refl
-nil_of (x ∷ xs) e = cc

@@ -1,10 +1,11 @@
 use Rattle.std.proofs.Common.{◌∙◌, refl, ap, ap₂, sym, map, List, Bool}
+use Rattle.std.proofs.lemmas.List.{nil_from_length}
 use Rattle.flux_atom.specs.declared.atom.AtomKind.{AtomKind}
 use Rattle.flux_forest.specs.View.{forest_of}
 use Rattle.flux_trees.specs.Hedge.{trees}
 use Rattle.flux_auto.specs.Takes.{profile_atom, profile_element}
 use Rattle.flux_auto.specs.Built.{state_of}
-use Rattle.flux_auto.proofs.Folding.{none_items, one_tree, tree_of, none_nil, walks_begin, walks_atom, walks_open, walks_close, work_atom, work_open, work_close}
+use Rattle.flux_auto.proofs.Folding.{one_tree, tree_of, none_nil, walks_begin, walks_atom, walks_open, walks_close, work_atom, work_open, work_close}
 use Rattle.flux_auto.proofs.run.set_of.Goals as goal
 
 pub loop-tree-init : goal.loop-tree-init
@@ -45,5 +46,5 @@ pub loop-tree-preserved : goal.loop-tree-preserved
 loop-tree-preserved c =
     let states = map state_of c.args.rows.now in
     walks_close states c.loop-tree.outer.items c.pop-in-None.new.self.items c.in-Some-pop.open c.loop-tree.trees.items c.loop-tree.rest.items c.in_ok-rest-in-Some-pop.rest.items (forest_of c.args.run) c.loop-tree.invariant
-    (none_items c.loop-tree.trees.items (sym c.loop-tree.trees.ok.0 ∙ c.in-None.ensures.cases.0)) c.in-Some-pop.ensures.items
+    (nil_from_length c.loop-tree.trees.items (sym c.loop-tree.trees.ok.0 ∙ c.in-None.ensures.cases.0)) c.in-Some-pop.ensures.items
     (c.in_ok-rest-in-Some-pop.ensures ∙ ap₂ (λ (p q : List Bool). profile_element states c.in-Some-pop.open.label p q) c.deref-in-Some-pop.ensures.value c.deref-in-Some-pop-2.ensures.value)

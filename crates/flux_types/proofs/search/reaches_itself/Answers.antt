@@ -1,10 +1,11 @@
 use Rattle.std.proofs.Common.{◌≡◌, ◌∙◌, ◌<◌, ◌++◌, ◌∷◌, [], sym, subst, ap, arith, length, get_or, refl, ℕ, List}
+use Rattle.std.proofs.lemmas.List.{nil_from_length}
 use Rattle.flux_schema.specs.Definitions.{body_of}
 use Rattle.flux_types.specs.Kept.{definitions_of}
 use Rattle.flux_types.specs.Read.{ty_of}
 use Rattle.flux_types.specs.Search.{IsAmong}
 use Rattle.flux_types.proofs.KeptLaws.{kept_at, known_at, take_whole}
-use Rattle.flux_types.proofs.SearchLaws.{Searches, searches_init, searches_next, searches_end, among_last, marked_read, nil_of}
+use Rattle.flux_types.proofs.SearchLaws.{Searches, searches_init, searches_next, searches_end, among_last, marked_read}
 use Rattle.flux_types.proofs.search.reaches_itself.Goals as goal
 
 pub mark_standing-requires : goal.mark_standing-requires
@@ -57,5 +58,5 @@ returns c =
     let marks = c.loop-next.marks.items in
     let within : c.args.index < length marks = omega (arith, c.requires.within, c.loop-next.invariant.length_is) in
     let read = marked_read marks c.args.index c.index.result.now within c.index.ensures in
-    let over = searches_end (body_of (definitions_of c.args.kept.now)) (length c.args.kept.now) c.args.index c.args.index marks c.loop-next.waiting.items c.loop-next.invariant (nil_of c.loop-next.waiting.items (omega (arith, c.in_default.ensures.cases))) in
+    let over = searches_end (body_of (definitions_of c.args.kept.now)) (length c.args.kept.now) c.args.index c.args.index marks c.loop-next.waiting.items c.loop-next.invariant (nil_from_length c.loop-next.waiting.items (omega (arith, c.in_default.ensures.cases))) in
     (λ t. over.0 (read.0 t), λ r. read.1 (over.1 r))
