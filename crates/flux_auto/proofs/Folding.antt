@@ -1,13 +1,16 @@
 -- The profile of a forest, from its last tree to its first.
-use Rattle.std.proofs.Common.{◌≡◌, ℕ, ◌+◌, ◌*◌, ◌<◌, List, [], ◌∷◌, ◌++◌, Bool, length, map, refl, sym, ap, ap₂, subst, ◌∙◌, arith}
+use Rattle.std.proofs.Common.{◌≡◌, ℕ, ◌+◌, ◌*◌, ◌<◌, ◌≤◌, List, [], ◌∷◌, ◌++◌, Bool, length, map, refl, sym, ap, ap₂, subst, ◌∙◌, arith}
 use Rattle.std.proofs.lemmas.List.{map_push}
 use Rattle.flux_atom.specs.declared.atom.Atom.{Atom as Value}
+use Rattle.flux_atom.specs.declared.atom.AtomKind.{AtomKind}
 use Rattle.flux_atom.specs.Atom.{kind_of}
 use Rattle.flux_trees.specs.Hedge.{Plain, nil, elem, leaf, size, trees, others, content, IsElement}
 use Rattle.flux_forest.specs.declared.view.View.{View}
 use Rattle.flux_forest.specs.View.{forest_of}
 use Rattle.flux_auto.specs.declared.run.Open.{Open}
+use Rattle.flux_auto.specs.declared.profiles.Turn.TheVariants.{Atom, Elem}
 use Rattle.flux_auto.specs.Takes.{State, profile, profile_nil, profile_element, profile_atom}
+use Rattle.flux_auto.specs.Profiles.{profile_at, Gives, Keeps}
 
 -- ---- a loop over rows
 
@@ -71,25 +74,35 @@ nodes-last (g ∷ hs) h = omega (arith, nodes-last hs h)
 abbrev pub forests : List View → List Plain
 forests runs = map forest_of runs
 
-abbrev pub around : List State → List Open → List Bool → List Bool
-around states [] p = p
-around states (o ∷ os) p = all_before states (forests o.trees.items) (profile_element states o.label (around states os p) o.rest.items)
+abbrev pub around : List State → List (List Bool) → List Open → List Bool → List Bool
+around states ps [] p = p
+around states ps (o ∷ os) p = all_before states (forests o.trees.items) (profile_element states o.label (around states ps os p) (profile_at ps o.rest))
 
-pub around_last : (states : List State) (os : List Open) (o : Open) (p : List Bool) → around states (os ++ o ∷ []) p ≡ around states os (all_before states (forests o.trees.items) (profile_element states o.label p o.rest.items))
-around_last states [] o p = refl
-around_last states (x ∷ os) o p = ap (λ q. all_before states (forests x.trees.items) (profile_element states x.label q x.rest.items)) (around_last states os o p)
+pub around_last : (states : List State) (ps : List (List Bool)) (os : List Open) (o : Open) (p : List Bool) → around states ps (os ++ o ∷ []) p ≡ around states ps os (all_before states (forests o.trees.items) (profile_element states o.label p (profile_at ps o.rest)))
+around_last states ps [] o p = refl
+around_last states ps (x ∷ os) o p = ap (λ q. all_before states (forests x.trees.items) (profile_element states x.label q (profile_at ps x.rest))) (around_last states ps os o p)
 
-abbrev pub EachOpen : List Open → Type 0
-EachOpen [] = Unit {0}
-EachOpen (o ∷ os) = EachTree (forests o.trees.items) × EachOpen os
+-- the trees are single, and the profile behind them is one of the first n
+abbrev pub EachOpen : ℕ → List Open → Type 0
+EachOpen n [] = Unit {0}
+EachOpen n (o ∷ os) = EachTree (forests o.trees.items) × (o.rest < n) × EachOpen n os
 
-pub each_open_last : (os : List Open) (o : Open) → EachOpen (os ++ o ∷ []) → EachOpen os × EachTree (forests o.trees.items)
-each_open_last [] o e = (tt, e.0)
-each_open_last (x ∷ os) o e = let p = each_open_last os o e.1 in ((e.0, p.0), p.1)
+pub each_open_last : (n : ℕ) (os : List Open) (o : Open) → EachOpen n (os ++ o ∷ []) → EachOpen n os × EachTree (forests o.trees.items) × (o.rest < n)
+each_open_last n [] o e = (tt, e.0, e.1)
+each_open_last n (x ∷ os) o e = let p = each_open_last n os o e.2 in ((e.0, e.1, p.0), p.1, p.2)
 
-pub each_open_more : (os : List Open) (o : Open) → EachOpen os → EachTree (forests o.trees.items) → EachOpen (os ++ o ∷ [])
-each_open_more [] o e t = (t, tt)
-each_open_more (x ∷ os) o e t = (e.0, each_open_more os o e.1 t)
+pub each_open_more : (n : ℕ) (os : List Open) (o : Open) → EachOpen n os → EachTree (forests o.trees.items) → o.rest < n → EachOpen n (os ++ o ∷ [])
+each_open_more n [] o e t r = (t, r, tt)
+each_open_more n (x ∷ os) o e t r = (e.0, e.1, each_open_more n os o e.2 t r)
+
+pub each_open_keeps : (n m : ℕ) (os : List Open) → n ≤ m → EachOpen n os → EachOpen m os
+each_open_keeps n m [] h e = tt
+each_open_keeps n m (o ∷ os) h e = (e.0, omega (arith, e.1), each_open_keeps n m os h e.2)
+
+pub around_keeps : (states : List State) (old new : List (List Bool)) (os : List Open) (p : List Bool) → Keeps old new → EachOpen (length old) os → around states new os p ≡ around states old os p
+around_keeps states old new [] p k e = refl
+around_keeps states old new (o ∷ os) p k e =
+    ap₂ (λ q r. all_before states (forests o.trees.items) (profile_element states o.label q r)) (around_keeps states old new os p k e.2) (k.same o.rest e.1)
 
 -- what is left to do at the open elements
 abbrev pub left : List Open → ℕ
@@ -102,61 +115,88 @@ left-last (x ∷ os) o = omega (arith, left-last os o)
 
 -- ---- the walk
 
-pub record Walks (states : List State) (outer : List Open) (runs : List View) (rest : List Bool) (whole : Plain) : Type 0 where
+pub record Walks (states : List State) (ps : List (List Bool)) (outer : List Open) (runs : List View) (rest : ℕ) (whole : Plain) : Type 0 where
   pub each : EachTree (forests runs)
-  pub open_each : EachOpen outer
-  pub value : around states outer (all_before states (forests runs) rest) ≡ profile states whole
+  pub open_each : EachOpen (length ps) outer
+  pub there : rest < length ps
+  pub value : around states ps outer (all_before states (forests runs) (profile_at ps rest)) ≡ profile states whole
 
-pub walks_begin : (states : List State) (none : List Open) (runs : List View) (rest : List Bool) (whole : Plain) → none ≡ [] → forests runs ≡ trees whole → rest ≡ profile_nil states → Walks states none runs rest whole
-walks_begin states none runs rest whole e f g = record {
+pub walks_begin : (states : List State) (ps : List (List Bool)) (none : List Open) (runs : List View) (rest : ℕ) (whole : Plain) → none ≡ [] → forests runs ≡ trees whole → rest < length ps → profile_at ps rest ≡ profile_nil states
+    → Walks states ps none runs rest whole
+walks_begin states ps none runs rest whole e f h g = record {
   each = subst EachTree (sym f) (each_of whole);
-  open_each = subst EachOpen (sym e) tt;
-  value = ap (λ os. around states os (all_before states (forests runs) rest)) e ∙ ap₂ (λ hs q. all_before states hs q) f g ∙ before_trees states whole;
+  open_each = subst (EachOpen (length ps)) (sym e) tt;
+  there = h;
+  value = ap (λ os. around states ps os (all_before states (forests runs) (profile_at ps rest))) e ∙ ap₂ (λ hs q. all_before states hs q) f g ∙ before_trees states whole;
+}
+
+-- profiles that are kept stay
+pub walks_keeps : (states : List State) (old new : List (List Bool)) (outer : List Open) (runs : List View) (rest : ℕ) (whole : Plain) → Keeps old new → Walks states old outer runs rest whole → Walks states new outer runs rest whole
+walks_keeps states old new outer runs rest whole k w = record {
+  each = w.each;
+  open_each = each_open_keeps (length old) (length new) outer k.longer w.open_each;
+  there = omega (arith, k.longer, w.there);
+  value =
+      ap (λ q. around states new outer (all_before states (forests runs) q)) (k.same rest w.there)
+      ∙ around_keeps states old new outer (all_before states (forests runs) (profile_at old rest)) k w.open_each ∙ w.value;
 }
 
 -- the last run of a level
 last_run : (runs before : List View) (one : View) → before ≡ runs ++ one ∷ [] → forests before ≡ forests runs ++ forest_of one ∷ []
 last_run runs before one e = ap forests e ∙ map_push forest_of runs one
 
-pub one_tree : (states : List State) (outer : List Open) (all runs : List View) (one : View) (rest : List Bool) (whole : Plain) → Walks states outer all rest whole → all ≡ runs ++ one ∷ [] → IsTree (forest_of one)
-one_tree states outer all runs one rest whole w e = (each_last (forests runs) (forest_of one) (subst EachTree (last_run runs all one e) w.each)).1
+pub one_tree : (states : List State) (ps : List (List Bool)) (outer : List Open) (all runs : List View) (one : View) (rest : ℕ) (whole : Plain) → Walks states ps outer all rest whole → all ≡ runs ++ one ∷ [] → IsTree (forest_of one)
+one_tree states ps outer all runs one rest whole w e = (each_last (forests runs) (forest_of one) (subst EachTree (last_run runs all one e) w.each)).1
 
-pub walks_atom : (states : List State) (outer : List Open) (all runs : List View) (one : View) (rest set : List Bool) (x : Value) (whole : Plain) → Walks states outer all rest whole → all ≡ runs ++ one ∷ []
-    → forest_of one ≡ leaf tt x (others (forest_of one)) → set ≡ profile_atom states (kind_of x) rest → Walks states outer runs set whole
-walks_atom states outer all runs one rest set x whole w e is f = record {
+pub walks_atom : (states : List State) (ps : List (List Bool)) (outer : List Open) (all runs : List View) (one : View) (rest number : ℕ) (x : Value) (k : AtomKind) (whole : Plain) → Walks states ps outer all rest whole → all ≡ runs ++ one ∷ []
+    → forest_of one ≡ leaf tt x (others (forest_of one)) → k ≡ kind_of x → Gives states ps (Atom k rest) number → Walks states ps outer runs number whole
+walks_atom states ps outer all runs one rest number x k whole w e is same g = record {
   each = (each_last (forests runs) (forest_of one) (subst EachTree (last_run runs all one e) w.each)).0;
   open_each = w.open_each;
+  there = g.there;
   value =
-      ap (λ q. around states outer (all_before states (forests runs) q)) (f ∙ ap (λ h. before states h rest) (sym is))
-      ∙ ap (around states outer) (sym (before_last states (forests runs) (forest_of one) rest)) ∙ ap (λ hs. around states outer (all_before states hs rest)) (sym (last_run runs all one e)) ∙ w.value;
+      ap (λ q. around states ps outer (all_before states (forests runs) q)) (g.same ∙ ap (λ j. profile_atom states j (profile_at ps rest)) same ∙ ap (λ h. before states h (profile_at ps rest)) (sym is))
+      ∙ ap (around states ps outer) (sym (before_last states (forests runs) (forest_of one) (profile_at ps rest))) ∙ ap (λ hs. around states ps outer (all_before states hs (profile_at ps rest))) (sym (last_run runs all one e)) ∙ w.value;
 }
 
-pub walks_open : (states : List State) (outer now : List Open) (o : Open) (all inner : List View) (one : View) (rest set : List Bool) (whole : Plain) → Walks states outer all rest whole → all ≡ o.trees.items ++ one ∷ []
-    → forest_of one ≡ elem tt o.label (content (forest_of one)) (others (forest_of one)) → o.rest.items ≡ rest → now ≡ outer ++ o ∷ [] → forests inner ≡ trees (content (forest_of one)) → set ≡ profile_nil states → Walks states now inner set whole
-walks_open states outer now o all inner one rest set whole w e is r f g k =
+pub walks_open : (states : List State) (ps : List (List Bool)) (outer now : List Open) (o : Open) (all inner : List View) (one : View) (nothing : ℕ) (whole : Plain) → Walks states ps outer all o.rest whole → all ≡ o.trees.items ++ one ∷ []
+    → forest_of one ≡ elem tt o.label (content (forest_of one)) (others (forest_of one)) → now ≡ outer ++ o ∷ [] → forests inner ≡ trees (content (forest_of one)) → nothing < length ps → profile_at ps nothing ≡ profile_nil states
+    → Walks states ps now inner nothing whole
+walks_open states ps outer now o all inner one nothing whole w e is f g h k =
     let runs = o.trees.items in
     let c = content (forest_of one) in
+    let rest = profile_at ps o.rest in
     record {
       each = subst EachTree (sym g) (each_of c);
-      open_each = subst EachOpen (sym f) (each_open_more outer o w.open_each (each_last (forests runs) (forest_of one) (subst EachTree (last_run runs all one e) w.each)).0);
+      open_each = subst (EachOpen (length ps)) (sym f) (each_open_more (length ps) outer o w.open_each (each_last (forests runs) (forest_of one) (subst EachTree (last_run runs all one e) w.each)).0 w.there);
+      there = h;
       value =
-          ap (λ os. around states os (all_before states (forests inner) set)) f ∙ around_last states outer o (all_before states (forests inner) set)
-          ∙ ap (λ p. around states outer (all_before states (forests runs) (profile_element states o.label p o.rest.items))) (ap₂ (all_before states) g k ∙ before_trees states c)
-          ∙ ap (λ q. around states outer (all_before states (forests runs) q)) (ap (profile_element states o.label (profile states c)) r ∙ ap (λ h. before states h rest) (sym is))
-          ∙ ap (around states outer) (sym (before_last states (forests runs) (forest_of one) rest)) ∙ ap (λ hs. around states outer (all_before states hs rest)) (sym (last_run runs all one e)) ∙ w.value;
+          ap (λ os. around states ps os (all_before states (forests inner) (profile_at ps nothing))) f ∙ around_last states ps outer o (all_before states (forests inner) (profile_at ps nothing))
+          ∙ ap (λ p. around states ps outer (all_before states (forests runs) (profile_element states o.label p rest))) (ap₂ (all_before states) g k ∙ before_trees states c)
+          ∙ ap (λ q. around states ps outer (all_before states (forests runs) q)) (ap (λ h. before states h rest) (sym is))
+          ∙ ap (around states ps outer) (sym (before_last states (forests runs) (forest_of one) rest)) ∙ ap (λ hs. around states ps outer (all_before states hs rest)) (sym (last_run runs all one e)) ∙ w.value;
     }
 
-pub walks_close : (states : List State) (outer inner : List Open) (o : Open) (all : List View) (rest set : List Bool) (whole : Plain) → Walks states outer all rest whole → all ≡ [] → outer ≡ inner ++ o ∷ [] → set ≡ profile_element states o.label rest o.rest.items
-    → Walks states inner o.trees.items set whole
-walks_close states outer inner o all rest set whole w e f g =
-    let p = each_open_last inner o (subst EachOpen f w.open_each) in
+pub walks_close : (states : List State) (ps : List (List Bool)) (outer inner : List Open) (o : Open) (all : List View) (rest number : ℕ) (whole : Plain) → Walks states ps outer all rest whole → all ≡ [] → outer ≡ inner ++ o ∷ []
+    → Gives states ps (Elem o.label rest o.rest) number → Walks states ps inner o.trees.items number whole
+walks_close states ps outer inner o all rest number whole w e f g =
+    let p = each_open_last (length ps) inner o (subst (EachOpen (length ps)) f w.open_each) in
     record {
       each = p.1;
       open_each = p.0;
+      there = g.there;
       value =
-          ap (λ q. around states inner (all_before states (forests o.trees.items) q)) g ∙ sym (around_last states inner o rest)
-          ∙ ap (λ os. around states os rest) (sym f) ∙ ap (λ runs. around states outer (all_before states (forests runs) rest)) (sym e) ∙ w.value;
+          ap (λ q. around states ps inner (all_before states (forests o.trees.items) q)) g.same ∙ sym (around_last states ps inner o (profile_at ps rest))
+          ∙ ap (λ os. around states ps os (profile_at ps rest)) (sym f) ∙ ap (λ runs. around states ps outer (all_before states (forests runs) (profile_at ps rest))) (sym e) ∙ w.value;
     }
+
+-- the profile behind the last element that was opened is there
+pub open_there : (states : List State) (ps : List (List Bool)) (outer inner : List Open) (o : Open) (all : List View) (rest : ℕ) (whole : Plain) → Walks states ps outer all rest whole → outer ≡ inner ++ o ∷ [] → (rest < length ps) × (o.rest < length ps)
+open_there states ps outer inner o all rest whole w f = (w.there, (each_open_last (length ps) inner o (subst (EachOpen (length ps)) f w.open_each)).2)
+
+pub walks_end : (states : List State) (ps : List (List Bool)) (outer : List Open) (runs : List View) (rest : ℕ) (whole : Plain) → Walks states ps outer runs rest whole → outer ≡ [] → runs ≡ [] → profile_at ps rest ≡ profile states whole
+walks_end states ps outer runs rest whole w e f =
+    ap (λ rs. all_before states (forests rs) (profile_at ps rest)) (sym f) ∙ ap (λ os. around states ps os (all_before states (forests runs) (profile_at ps rest))) (sym e) ∙ w.value
 
 -- ---- it ends
 

@@ -13,6 +13,7 @@ pub mod Meaning
 pub mod ArcLaws
 pub mod Adding
 pub mod Folding
+pub mod Interning
 pub mod Recipes
 pub mod Building
 pub mod TakeLaws

@@ -7,5 +7,6 @@ pub mod Arcs
 pub mod Marking
 pub mod Shown
 pub mod Folding
+pub mod Profiles
 pub mod Witness
 pub mod TakesLaw

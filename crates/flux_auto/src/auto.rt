@@ -10,7 +10,7 @@ use crate::Edge;
 use crate::arcs::Arcs;
 use crate::make::{begin, extend_or_stay};
 use crate::names::empty_names;
-use crate::run::{set_of, takes};
+use crate::run::is_taken;
 use crate::table::Table;
 use crate::witness::some_of;
 use flux_atom::Name;
@@ -119,11 +119,14 @@ impl Auto {
     }
 
     /// Whether a forest is a member of a type that was added. First it sorts the edges by what they
-    /// go by, which takes the time of going over them and the names up to the last label once.
-    /// Then each node takes the time of filling a truth value for each state, and of going over the
-    /// edges of its label and of any label alone, or of its kind of atom. The memory is that of the
-    /// edges, and a truth value for each state and each element that is open at once. It doesn't
-    /// recurse.
+    /// go by, which takes the time of going over them and the names up to the last label once. The
+    /// profile of a forest, a truth value for each state, tells which states take it. Each profile
+    /// is kept once and has a number. A tree in front of a forest takes the time of looking up what
+    /// its label, or kind of atom, and the numbers of the two profiles give. That is found when they
+    /// meet for the first time: by filling a profile, and going over the edges of the label and of
+    /// any label alone, or of the kind. The memory is that of the edges, of the profiles that
+    /// differ and of what was found, and for each element that is open a number and the places of
+    /// the trees before it that are still to come. It doesn't recurse.
     pub fn member(&self, start: Start, view: View<'_>) -> Result<bool, AllocError>
         requires { start < length self.now.types }
         ensures { IfOk result (λ found. IfSome (slice_get self.now.types start)
@@ -132,8 +135,7 @@ impl Auto {
         let alloc = *self.added.allocator();
         let rows = self.table.rows.as_slice();
         let arcs = Arcs::of(alloc, rows)?;
-        let set = set_of(alloc, rows, &arcs, view)?;
-        Ok(takes(&set, self.added[start.0].state))
+        is_taken(alloc, rows, &arcs, self.added[start.0].state, view)
     }
 
     /// A member of a type that was added, if it has one. An element of any label has the label

@@ -9,7 +9,9 @@ mod edge;
 mod linear;
 mod make;
 mod names;
+mod profiles;
 mod run;
+mod sets;
 mod table;
 mod witness;
 

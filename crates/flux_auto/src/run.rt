@@ -1,14 +1,17 @@
-// Which states take a forest.
-ghost use Rattle.std.specs.Prelude.{◌≡◌, ℕ, length, IfOk, map, set, true};
+// Whether a state takes a forest.
+ghost use Rattle.std.specs.Prelude.{◌≡◌, ◌<◌, length, IfOk, map};
 ghost use Rattle.flux_forest.specs.View.{forest_of};
-ghost use Rattle.flux_auto.specs.Takes.{profile, profile_nil, profile_element, profile_atom, has};
-ghost use Rattle.flux_auto.specs.Arcs.{IsIndex, mark_by_arc, mark_by_arcs, mark_by_leap};
+ghost use Rattle.flux_auto.specs.Takes.{profile, takes};
+ghost use Rattle.flux_auto.specs.Arcs.{IsIndex};
 ghost use Rattle.flux_auto.specs.Built.{state_of};
 ghost use Rattle.flux_auto.specs.Folding.{AreTrees};
+ghost use Rattle.flux_auto.specs.Profiles.{AreRight, profile_at, profiles_of};
 
-use crate::arcs::{Arc, Arcs, Leap};
+use crate::arcs::Arcs;
+use crate::profiles::{NOTHING, Profiles, Turn, after, begin_profiles, set_at};
+use crate::sets::takes;
 use crate::table::Row;
-use flux_atom::{AtomKind, Name, kind};
+use flux_atom::{Name, kind};
 use flux_forest::{First, View};
 use std::alloc::{AllocError, Global};
 
@@ -26,139 +29,74 @@ fn trees_of<'a>(alloc: Global, run: View<'a>) -> Result<Vec<View<'a>>, AllocErro
     Ok(trees)
 }
 
-pub(crate) fn takes(set: &[bool], state: u64) -> bool
-    ensures { result ≡ has set.now state }
-{
-    match set.get(state as usize) {
-        Some(taken) => *taken,
-        None => false,
-    }
-}
-
-// Marks a state; nothing where it isn't there.
-fn mark(marks: &mut Vec<bool>, state: u64)
-    ensures { marks.new.items ≡ set marks.old.items state true }
-{
-    if let Some(marked) = marks.get_mut(state as usize) {
-        *marked = true;
-    }
-}
-
-fn mark_by_arc(marks: &mut Vec<bool>, arc: &Arc, content: &[bool], rest: &[bool])
-    ensures { marks.new.items ≡ mark_by_arc content.now rest.now marks.old.items arc.now }
-{
-    if takes(content, arc.content) && takes(rest, arc.next) {
-        mark(marks, arc.source);
-    }
-}
-
-fn mark_by_arcs(marks: &mut Vec<bool>, arcs: &[Arc], content: &[bool], rest: &[bool])
-    ensures { marks.new.items ≡ mark_by_arcs content.now rest.now marks.old.items arcs.now }
-{
-    for arc in arcs {
-        mark_by_arc(marks, arc, content, rest);
-    }
-}
-
-fn mark_by_leap(marks: &mut Vec<bool>, leap: &Leap, rest: &[bool])
-    ensures { marks.new.items ≡ mark_by_leap rest.now marks.old.items leap.now }
-{
-    if takes(rest, leap.next) {
-        mark(marks, leap.source);
-    }
-}
-
-fn set_of_nil(alloc: Global, rows: &[Row]) -> Result<Vec<bool>, AllocError>
-    ensures { IfOk result (λ set. set.items ≡ profile_nil (map state_of rows.now)) }
-{
-    let mut set = Vec::new(alloc);
-    for row in rows {
-        set.push(row.ends)?;
-    }
-    Ok(set)
-}
-
-fn set_of_element(
-    alloc: Global,
-    rows: &[Row],
-    arcs: &Arcs,
-    label: Name,
-    content: &[bool],
-    rest: &[bool],
-) -> Result<Vec<bool>, AllocError>
-    requires { IsIndex rows.now arcs.now }
-    ensures { IfOk result (λ set.
-        set.items ≡ profile_element (map state_of rows.now) label content.now rest.now) }
-{
-    let mut set = Vec::from_elem(alloc, false, rows.len())?;
-    mark_by_arcs(&mut set, arcs.for_label(label), content, rest);
-    mark_by_arcs(&mut set, arcs.any_label.as_slice(), content, rest);
-    Ok(set)
-}
-
-fn set_of_atom(
-    alloc: Global,
-    rows: &[Row],
-    arcs: &Arcs,
-    kind: AtomKind,
-    rest: &[bool],
-) -> Result<Vec<bool>, AllocError>
-    requires { IsIndex rows.now arcs.now }
-    ensures { IfOk result (λ set. set.items ≡ profile_atom (map state_of rows.now) kind rest.now) }
-{
-    let mut set = Vec::from_elem(alloc, false, rows.len())?;
-    let leaps = arcs.for_kind(kind);
-    for leap in leaps {
-        mark_by_leap(&mut set, leap, rest);
-    }
-    Ok(set)
-}
-
-// An element that is open: its label, the trees before it that are still to come, and the states
-// that take what stands behind it.
+// An element that is open: its label, the trees before it that are still to come, and the number of
+// the profile of what stands behind it.
 #[derive(Drop)]
 pub(crate) struct Open<'a> {
     pub(crate) label: Name,
     pub(crate) trees: Vec<View<'a>>,
-    pub(crate) rest: Vec<bool>,
+    pub(crate) rest: usize,
 }
 
-// The trees are gone over from the last to the first, at each level.
-pub(crate) fn set_of(
+// The number of the profile of a forest. The trees are gone over from the last to the first, at
+// each level.
+fn number_of(
     alloc: Global,
     rows: &[Row],
     arcs: &Arcs,
+    profiles: &mut Profiles,
     run: View<'_>,
-) -> Result<Vec<bool>, AllocError>
-    requires { IsIndex rows.now arcs.now }
-    ensures { IfOk result
-        (λ set. set.items ≡ profile (map state_of rows.now) (forest_of run.entry)) }
+) -> Result<usize, AllocError>
+    requires index { IsIndex rows.now arcs.now }
+    requires right { AreRight (map state_of rows.now) profiles.old }
+    ensures there { IfOk result (λ n. n < length (profiles_of profiles.new)) }
+    ensures profile { IfOk result (λ n.
+        profile_at (profiles_of profiles.new) n
+        ≡ profile (map state_of rows.now) (forest_of run.entry)) }
 {
     let mut outer: Vec<Open<'_>> = Vec::new(alloc);
     let mut trees = trees_of(alloc, run)?;
-    let ends = set_of_nil(alloc, rows)?;
-    let mut rest = Vec::from_slice(alloc, ends.as_slice())?;
+    let mut rest = NOTHING;
     loop {
         match trees.pop() {
             Some(tree) => match tree.first() {
                 First::Nothing => unreachable!(),
                 First::Atom(atom) => {
-                    rest = set_of_atom(alloc, rows, arcs, kind(atom), &rest)?;
+                    let turn = Turn::Atom(kind(atom), rest);
+                    rest = after(alloc, rows, arcs, profiles, turn)?;
                 }
                 First::Elem(label) => {
                     let content = trees_of(alloc, tree.content())?;
                     outer.push(Open { label, trees, rest })?;
                     trees = content;
-                    rest = Vec::from_slice(alloc, ends.as_slice())?;
+                    rest = NOTHING;
                 }
             },
             None => match outer.pop() {
                 Some(open) => {
-                    rest = set_of_element(alloc, rows, arcs, open.label, &rest, &open.rest)?;
+                    let turn = Turn::Elem(open.label, rest, open.rest);
+                    rest = after(alloc, rows, arcs, profiles, turn)?;
                     trees = open.trees;
                 }
                 None => return Ok(rest),
             },
         }
     }
+}
+
+// Whether a state takes a forest.
+pub(crate) fn is_taken(
+    alloc: Global,
+    rows: &[Row],
+    arcs: &Arcs,
+    state: u64,
+    run: View<'_>,
+) -> Result<bool, AllocError>
+    requires { IsIndex rows.now arcs.now }
+    ensures { IfOk result
+        (λ taken. taken ≡ takes (map state_of rows.now) state (forest_of run.entry)) }
+{
+    let mut profiles = begin_profiles(alloc, rows)?;
+    let number = number_of(alloc, rows, arcs, &mut profiles, run)?;
+    Ok(takes(set_at(&profiles, number), state))
 }

@@ -1,5 +1,5 @@
 use Rattle.flux_auto.proofs.ArcLaws.{arcs_next, arcs_whole}
-use Rattle.flux_auto.proofs.run.mark_by_arcs.Goals as goal
+use Rattle.flux_auto.proofs.sets.mark_by_arcs.Goals as goal
 
 pub loop-arc-preserved : goal.loop-arc-preserved
 loop-arc-preserved c =

@@ -1,6 +1,6 @@
 use Rattle.std.proofs.Common.{◌∙◌, false, length, replicate}
 use Rattle.flux_auto.proofs.ArcLaws.{leaps_next, atom_marks}
-use Rattle.flux_auto.proofs.run.set_of_atom.Goals as goal
+use Rattle.flux_auto.proofs.sets.set_of_atom.Goals as goal
 
 pub loop-leap-preserved : goal.loop-leap-preserved
 loop-leap-preserved c =

@@ -1,6 +1,6 @@
 use Rattle.std.proofs.Common.{◌∙◌, ap, replicate, false, arith}
 use Rattle.flux_auto.proofs.ArcLaws.{element_marks}
-use Rattle.flux_auto.proofs.run.set_of_element.Goals as goal
+use Rattle.flux_auto.proofs.sets.set_of_element.Goals as goal
 
 pub returns : goal.returns
 returns c =
