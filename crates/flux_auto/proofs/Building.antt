@@ -7,8 +7,8 @@ use Rattle.flux_trees.specs.Draft.{Draft, done, depth, add, begin, end}
 use Rattle.flux_trees.proofs.DraftLaws.{add-nil, add-add, depth-add, depth-begin, depth-end, end-begin}
 use Rattle.flux_auto.specs.declared.witness.Recipe.{Recipe}
 use Rattle.flux_auto.specs.declared.witness.Recipe.TheVariants.{End, Atom, Elem}
-use Rattle.flux_auto.specs.declared.witness.Task.{Task}
-use Rattle.flux_auto.specs.declared.witness.Task.TheVariants.{Write, Close}
+use Rattle.flux_auto.specs.declared.build.Task.{Task}
+use Rattle.flux_auto.specs.declared.build.Task.TheVariants.{Write, Close}
 use Rattle.flux_auto.specs.Witness.{sample, forest_at, forests, IsOlder}
 use Rattle.flux_auto.proofs.Recipes.{forest-made}
 

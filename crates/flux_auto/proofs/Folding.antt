@@ -194,10 +194,6 @@ walks_close states ps outer inner o all rest number whole w e f g =
 pub open_there : (states : List State) (ps : List (List Bool)) (outer inner : List Open) (o : Open) (all : List View) (rest : ℕ) (whole : Plain) → Walks states ps outer all rest whole → outer ≡ inner ++ o ∷ [] → (rest < length ps) × (o.rest < length ps)
 open_there states ps outer inner o all rest whole w f = (w.there, (each_open_last (length ps) inner o (subst (EachOpen (length ps)) f w.open_each)).2)
 
-pub walks_end : (states : List State) (ps : List (List Bool)) (outer : List Open) (runs : List View) (rest : ℕ) (whole : Plain) → Walks states ps outer runs rest whole → outer ≡ [] → runs ≡ [] → profile_at ps rest ≡ profile states whole
-walks_end states ps outer runs rest whole w e f =
-    ap (λ rs. all_before states (forests rs) (profile_at ps rest)) (sym f) ∙ ap (λ os. around states ps os (all_before states (forests runs) (profile_at ps rest))) (sym e) ∙ w.value
-
 -- ---- it ends
 
 pub tree_of : (h : Plain) (n : ℕ) → IsTree h → h ≡ elem tt n (content h) (others h) → IsElement h

@@ -1,12 +1,11 @@
 -- Profiles that are kept by numbers.
-use Rattle.std.proofs.Common.{◌≡◌, ℕ, ◌<◌, Bool, true, false, cond, List, [], ◌∷◌, ◌++◌, Some, length, slice_get, get_or, map, All, Contains, refl, sym, ap, ap₂, subst, ◌∙◌, arith, rules}
+use Rattle.std.proofs.Common.{◌≡◌, ℕ, ◌<◌, Bool, true, false, cond, List, [], ◌∷◌, Some, length, slice_get, get_or, map, All, refl, sym, ap, ap₂, subst, ◌∙◌, arith, rules}
 use Rattle.std.proofs.lemmas.List.Elements.{All-cons, All-head, All-tail}
 use Rattle.std.proofs.lemmas.Option.{slice_get-map, slice_get_within, get_or_from_slice_get}
 use Rattle.std.specs.Option.{option_map}
 use Rattle.indexmap.specs.IndexMap.{insert_entry}
 use Rattle.indexmap.specs.IndexSet.{insert_key}
 use Rattle.std.proofs.Math.Bool.{beq}
-use Rattle.flux_atom.specs.declared.atom.AtomKind.{AtomKind}
 use Rattle.flux_auto.specs.declared.profiles.Turn.{Turn}
 use Rattle.flux_auto.specs.declared.profiles.Turn.TheVariants.{Atom, Elem}
 use Rattle.flux_auto.specs.contracts.profiles.TurnPartialEq.TheImpl.{eq-value}

@@ -1,6 +1,5 @@
 -- The laws of the search for the names whose types have the empty forest.
-use Rattle.std.proofs.Common.{◌≡◌, ◌⊎◌, ◌+◌, ◌<◌, ◌≤◌, ℕ, zero, suc, List, Bool, true, false, Some, length, get_or, replicate, refl, sym, ap, subst, ◌∙◌, inl, inr, arith}
-use Rattle.std.proofs.lemmas.List.{length-set}
+use Rattle.std.proofs.Common.{◌≡◌, ◌+◌, ◌<◌, ◌≤◌, ℕ, zero, suc, List, Bool, true, false, Some, length, replicate, refl, sym, ap, subst, ◌∙◌, inl, inr, arith}
 use Rattle.std.proofs.Math.ListN.{set}
 use Rattle.flux_trees.specs.Hedge.{nil}
 use Rattle.flux_schema.specs.Ty.{Ty, named}
@@ -11,7 +10,7 @@ use Rattle.flux_schema.proofs.MarkLaws.{marked-set, unmarked-set}
 use Rattle.flux_schema.proofs.Ranks.{body_within}
 use Rattle.flux_auto.specs.Takes.{has}
 use Rattle.flux_auto.specs.Standing.{empties, TellsEmpty}
-use Rattle.flux_auto.specs.Marking.{MarksSound, Marks}
+use Rattle.flux_auto.specs.Marking.{MarksSound, Marked, Marks}
 use Rattle.flux_auto.proofs.Items.{some_is}
 use Rattle.flux_auto.proofs.Lists.{of_name, empties-sound, empties-complete}
 use Rattle.flux_auto.proofs.Growing.{below_or_not}
@@ -34,42 +33,58 @@ marking_begins defs names e = record {
 }
 
 -- the name has no mark, and its body has the empty forest
-pub marking_marks : (defs : Definitions) (before names : List Bool) (n : ℕ) (more read : Bool) (t : Ty) → Marking defs before names n more → n < length names → read ≡ get_or names n read → read ≡ false → body_of defs n ≡ Some t → empties (has names) t ≡ true
-    → Marking defs before (set names n true) (n + 1) true
-marking_marks defs before names n more read t m lt is bare_now body e =
-    let bare : get_or names n false ≡ false = subst (λ b. get_or names n b ≡ b) bare_now (sym is) in
-    record {
-      len = length-set names n true ∙ m.len;
-      sound = λ s x h. elim (marked-set names n x h) [
-        | inl same ↦ subst (λ y. Member defs nil (named y)) (sym same) (in_name n body (empties-sound defs (has names) (m.sound s) t e))
-        | inr k ↦ m.sound s x k
-      ];
-      fewer = λ k. omega (arith, m.no_more, unmarked-set names n lt bare);
-      no_more = omega (arith, m.no_more, unmarked-set names n lt bare);
-      all = λ k. cc;
-    }
-
--- the name has a mark already, or its body lacks the empty forest
-pub marking_keeps : (defs : Definitions) (before names : List Bool) (n : ℕ) (more : Bool) → Marking defs before names n more → ((t : Ty) → body_of defs n ≡ Some t → (has names n ≡ true) ⊎ (empties (has names) t ≡ false)) → Marking defs before names (n + 1) more
-marking_keeps defs before names n more m e = record {
-  len = m.len;
-  sound = m.sound;
-  fewer = m.fewer;
-  no_more = m.no_more;
-  all = λ k x u lt is h. elim (below_or_not x n) [
-    | inl l ↦ m.all k x u l is h
-    | inr l ↦
-        let at : x ≡ n = omega (arith, l, lt) in
-        elim (e u (ap (body_of defs) (sym at) ∙ is)) [
-          | inl marked ↦ ap (has names) at ∙ marked
-          | inr lacks ↦ (let x : true ≡ false = sym h ∙ lacks in cc)
-        ]
+pub marked_now : (defs : Definitions) (names : List Bool) (n : ℕ) (t : Ty) → n < length names → has names n ≡ false → body_of defs n ≡ Some t → empties (has names) t ≡ true → Marked defs names (set names n true) n true
+marked_now defs names n t lt bare body e = record {
+  sound = λ s x h. elim (marked-set names n x h) [
+    | inl same ↦ subst (λ y. Member defs nil (named y)) (sym same) (in_name n body (empties-sound defs (has names) s t e))
+    | inr k ↦ s x k
   ];
+  fewer = λ k. omega (arith, unmarked-set names n lt bare);
+  same = λ k. cc;
+  told = λ k. cc;
 }
 
--- the body is one
-pub lacks_body : (defs : Definitions) (names : List Bool) (n : ℕ) (t : Ty) → body_of defs n ≡ Some t → empties (has names) t ≡ false → (u : Ty) → body_of defs n ≡ Some u → (has names n ≡ true) ⊎ (empties (has names) u ≡ false)
-lacks_body defs names n t is e u f = inr (ap (empties (has names)) (some_is u t (sym f ∙ is)) ∙ e)
+-- it has a mark already
+pub marked_before : (defs : Definitions) (names : List Bool) (n : ℕ) → has names n ≡ true → Marked defs names names n false
+marked_before defs names n marked = record {
+  sound = λ s. s;
+  fewer = λ k. cc;
+  same = λ k. refl;
+  told = λ k t body e. marked;
+}
+
+-- or its body lacks the empty forest
+pub not_marked : (defs : Definitions) (names : List Bool) (n : ℕ) (t : Ty) → body_of defs n ≡ Some t → empties (has names) t ≡ false → Marked defs names names n false
+not_marked defs names n t body lacks = record {
+  sound = λ s. s;
+  fewer = λ k. cc;
+  same = λ k. refl;
+  told = λ k u is e. let x : true ≡ false = sym e ∙ ap (empties (has names)) (some_is u t (sym is ∙ body)) ∙ lacks in cc;
+}
+
+pub marking_marks : (defs : Definitions) (before names after : List Bool) (n : ℕ) (more : Bool) → Marking defs before names n more → Marked defs names after n true → length after ≡ length names → Marking defs before after (n + 1) true
+marking_marks defs before names after n more m k e = record {
+  len = e ∙ m.len;
+  sound = λ s. k.sound (m.sound s);
+  fewer = λ _. omega (arith, m.no_more, k.fewer refl);
+  no_more = omega (arith, m.no_more, k.fewer refl);
+  all = λ h. cc;
+}
+
+pub marking_keeps : (defs : Definitions) (before names after : List Bool) (n : ℕ) (more : Bool) → Marking defs before names n more → Marked defs names after n false → Marking defs before after (n + 1) more
+marking_keeps defs before names after n more m k =
+    subst (λ l. Marking defs before l (n + 1) more) (sym (k.same refl)) (record {
+      len = m.len;
+      sound = m.sound;
+      fewer = m.fewer;
+      no_more = m.no_more;
+      all = λ h x u lt is e. elim (below_or_not x n) [
+        | inl l ↦ m.all h x u l is e
+        | inr l ↦
+            let at : x ≡ n = omega (arith, l, lt) in
+            ap (has names) at ∙ subst (λ l. has l n ≡ true) (k.same refl) (k.told refl u (ap (body_of defs) (sym at) ∙ is) (ap (λ l. empties (has l) u) (k.same refl) ∙ e))
+      ];
+    })
 
 pub marking_ends : (defs : Definitions) (before names : List Bool) (n : ℕ) (more : Bool) → Marking defs before names n more → length defs ≤ n → Marks defs before names more
 marking_ends defs before names n more m le = record {

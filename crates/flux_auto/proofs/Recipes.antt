@@ -24,7 +24,7 @@ use Rattle.flux_auto.specs.declared.witness.Recipe.TheVariants.{End, Atom, Elem}
 use Rattle.flux_auto.specs.declared.witness.Witnesses.{Witnesses}
 use Rattle.flux_auto.specs.Takes.{State, has, goes_by_element, goes_by_atom, profile, takes}
 use Rattle.flux_auto.specs.Built.{state_of}
-use Rattle.flux_auto.specs.Witness.{sample, forest_at, made, forests_after, forests, IsOlder, place, element_by, recipe_by, IsRecipe, unplaced, IsEdgeLabel, IsShownBy, IsLabelled, Knows, Settled, Tried, IsTakenBy}
+use Rattle.flux_auto.specs.Witness.{sample, forest_at, made, forests_after, forests, IsOlder, place, element_by, recipe_by, IsRecipe, unplaced, IsShownBy, IsLabelled, Knows, Settled, Tried, IsTakenBy}
 use Rattle.flux_auto.proofs.Items.{some_is, get-append, get-end, split_at}
 use Rattle.flux_auto.proofs.Growing.{below_or_not}
 use Rattle.flux_auto.proofs.Meaning.{got, get-map, has-map}

@@ -12,6 +12,16 @@ use Rattle.flux_auto.specs.Standing.{empties}
 abbrev pub MarksSound : Definitions → List Bool → Type 0
 MarksSound defs names = (x : ℕ) → has names x ≡ true → Member defs nil (named x)
 
+-- the name x was looked at: marks stay right; where it got one, fewer names are left, and else it
+-- has one already or its body lacks the empty forest
+pub record Marked (defs : Definitions) (before after : List Bool) (x : ℕ)
+    (found : Bool) : Type 0 where
+  pub sound : MarksSound defs before → MarksSound defs after
+  pub fewer : found ≡ true → unmarked after < unmarked before
+  pub same : found ≡ false → after ≡ before
+  pub told : found ≡ false → (t : Ty) → body_of defs x ≡ Some t → empties (has after) t ≡ true
+      → has after x ≡ true
+
 -- a round of marking: marks stay right; where there was one more, fewer names are left, and else
 -- each name whose body has the empty forest is marked
 pub record Marks (defs : Definitions) (before after : List Bool) (more : Bool) : Type 0 where

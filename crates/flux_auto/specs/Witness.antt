@@ -76,6 +76,11 @@ abbrev pub Lacks : Row → ℕ → List (Option ℕ) → Type 0
 Lacks row other places = (row.ends ≡ false)
     × ((i : ℕ) (e : Edge) → slice_get row.edges.items i ≡ Some e → recipe_by other places e ≡ None)
 
+-- the edge is one of the state's
+abbrev pub IsEdgeOf : List Row → ℕ → Edge → Type 0
+IsEdgeOf rows s e = (row : Row) × (i : ℕ) × (slice_get rows s ≡ Some row)
+    × (slice_get row.edges.items i ≡ Some e)
+
 -- how many states have no place
 abbrev pub unplaced : List (Option ℕ) → ℕ
 unplaced [] = 0

@@ -3,6 +3,7 @@
 
 mod arcs;
 mod auto;
+mod build;
 mod close;
 mod content;
 mod edge;
@@ -14,6 +15,7 @@ mod run;
 mod sets;
 mod table;
 mod witness;
+mod worklist;
 
 pub use auto::{Auto, Start};
 pub use edge::Edge;

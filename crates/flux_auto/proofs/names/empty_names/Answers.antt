@@ -2,13 +2,11 @@ use Rattle.std.proofs.Common.{◌≡◌, ◌∙◌, sym, subst, ap, length, arit
 use Rattle.flux_types.proofs.KeptLaws.{take_whole}
 use Rattle.flux_auto.specs.Marking.{MarksSound}
 use Rattle.flux_auto.specs.Standing.{TellsEmpty}
-use Rattle.flux_auto.proofs.Marking.{sound_begins, tells_all}
+use Rattle.flux_auto.proofs.Marking.{tells_all}
 use Rattle.flux_auto.proofs.names.empty_names.Goals as goal
 
 pub loop-init : goal.loop-init
-loop-init c =
-    let e = c.in_ok-names.ensures.items_if_clones_equal (λ y h. h) in
-    (omega (arith, c.in_ok-names.ensures.len, c.len.ensures.count), sound_begins c.args.defs.now c.in_ok-names.names.items _ e)
+loop-init c = (c.in_ok-names.ensures.even, c.in_ok-names.ensures.sound)
 
 pub loop-preserved : goal.loop-preserved
 loop-preserved c =

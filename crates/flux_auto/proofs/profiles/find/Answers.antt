@@ -1,7 +1,7 @@
 use Rattle.std.proofs.Common.{◌∙◌, map, arith}
 use Rattle.flux_auto.specs.Built.{state_of}
 use Rattle.flux_auto.specs.Profiles.{profiles_of}
-use Rattle.flux_auto.proofs.Interning.{gives_new, right_more, same_turn}
+use Rattle.flux_auto.proofs.Interning.{gives_new, right_more}
 use Rattle.flux_auto.proofs.profiles.find.Goals as goal
 
 pub returns-clause-right : goal.returns-clause-right

@@ -1,10 +1,10 @@
-use Rattle.std.proofs.Common.{◌∙◌, refl, ap, sym, map}
+use Rattle.std.proofs.Common.{◌∙◌, ap, sym, map}
 use Rattle.std.proofs.lemmas.List.{nil_from_length}
 use Rattle.flux_forest.specs.View.{forest_of}
 use Rattle.flux_trees.specs.Hedge.{trees}
 use Rattle.flux_auto.specs.Built.{state_of}
 use Rattle.flux_auto.specs.Profiles.{profiles_of}
-use Rattle.flux_auto.proofs.Folding.{one_tree, tree_of, none_nil, walks_begin, walks_atom, walks_open, walks_close, walks_keeps, walks_end, open_there, work_atom, work_open, work_close}
+use Rattle.flux_auto.proofs.Folding.{one_tree, tree_of, none_nil, walks_begin, walks_atom, walks_open, walks_close, walks_keeps, open_there, work_atom, work_open, work_close}
 use Rattle.flux_auto.proofs.run.number_of.Goals as goal
 
 pub loop-tree-init : goal.loop-tree-init

@@ -1,5 +1,4 @@
-use Rattle.std.proofs.Common.{refl, ◌≡◌, ◌∙◌, sym, ap, Some, ℕ, List, Option, subst, false, rules}
-use Rattle.std.proofs.Math.ListN.{set}
+use Rattle.std.proofs.Common.{refl, ◌≡◌, ◌∙◌, sym, ap, ℕ, List, Option, subst, false, rules}
 use Rattle.std.specs.Option.{is_some}
 use Rattle.std.proofs.lemmas.Option.{slice_get_read}
 use Rattle.flux_auto.specs.Witness.{place, IsRecipe}
@@ -13,5 +12,4 @@ returns c =
     let none : is_some c.place_of.result ≡ false = search rules in
     let bare = ap (λ (l : List (Option ℕ)). place l c.args.state) (sym c.deref.ensures.value) ∙ sym c.place_of.ensures ∙ bare_of c.place_of.result none in
     let is = subst (λ (l : List (Option ℕ)). IsRecipe row c.args.other l c.in-Some.recipe) c.deref-2.ensures.value c.in-Some.ensures.found in
-    tried_found c.args.rows.now c.args.other c.args.known.now _ c.args.state row c.in-Some.recipe c.requires.knows c.requires.within at bare is c.in_ok-push.ensures.items
-    (ap (λ (n : ℕ). set c.args.known.now.places.items c.args.state (Some n)) (c.len-index.ensures ∙ c.args.known.now.recipes.ok.0))
+    tried_found c.args.rows.now c.args.other c.args.known.now _ c.args.state row c.in-Some.recipe c.requires.knows c.requires.within at bare is c.in_ok-keep.ensures.recipes c.in_ok-keep.ensures.places

@@ -1,4 +1,4 @@
-use Rattle.std.proofs.Common.{Result, Ok, Err, IfOk, ◌∙◌, ◌<◌, ◌≡◌, ◌↔◌, IsTrue, IfSome, subst, ap, refl, arith, length, slice_get, get_or, map, ℕ, List, Bool}
+use Rattle.std.proofs.Common.{Result, Ok, Err, IfOk, ◌∙◌, ◌<◌, ◌≡◌, ◌↔◌, IsTrue, IfSome, subst, ap, refl, arith, length, slice_get, get_or, map, ℕ, List}
 use Rattle.std.proofs.lemmas.Option.{slice_get_read}
 use Rattle.flux_schema.specs.Member.{Member}
 use Rattle.flux_forest.specs.View.{forest_of}

@@ -1,5 +1,5 @@
 use Rattle.flux_auto.specs.Witness.{Knows, unplaced}
-use Rattle.flux_auto.proofs.witness.find_witnesses.Given as goal
+use Rattle.flux_auto.proofs.worklist.find_witnesses.Given as goal
 
 abbrev pub invariant-loop-known : goal.invariant-loop-known
 invariant-loop-known l = Knows l.rows l.other l.known
