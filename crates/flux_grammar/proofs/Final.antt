@@ -36,13 +36,13 @@ abbrev script_in : Outcome → Option Script
 script_in (accepts script t) = Some t
 script_in _ = None
 
-same_type : Faithful (type 0)
+pub same_type : Faithful (type 0)
 same_type t u e = same_Some t u (ap type_in e)
 
-same_query : Faithful (expr 0)
+pub same_query : Faithful (expr 0)
 same_query t u e = same_Some t u (ap query_in e)
 
-same_script : Faithful script
+pub same_script : Faithful script
 same_script t u e = same_Some t u (ap script_in e)
 
 none_left : (s : State) → head s ≡ None → s ≡ state (end s) []

@@ -1,0 +1,10 @@
+mod KnownWords
+mod OneToken
+pub mod SoFar
+mod Standing
+mod Leads
+mod Chosen
+mod LabelChoices
+mod QueryChoices
+mod StatementChoices
+mod Whole

@@ -1,0 +1,48 @@
+use Rattle.std.proofs.Common.{◌≡◌, ◌+◌, ◌++◌, List, [], ◌∷◌, Some, None, Ok, Err, refl, sym, ap, ◌∙◌, arith}
+use Rattle.std.proofs.lemmas.Result.{err_from_is_err_and}
+use Rattle.flux_grammar.specs.declared.lexeme.Keyword.TheVariants as key
+use Rattle.flux_grammar.specs.declared.lexeme.Lexeme.TheVariants.{Reserved, Sign, Var}
+use Rattle.flux_grammar.specs.declared.lexeme.Sign.TheVariants as sign
+use Rattle.flux_grammar.specs.declared.tree.Stmt.TheVariants as st
+use Rattle.flux_grammar.specs.Grammar.{spanning, path, slashes, step, spot, filtered, expr, stmts, nexts, ending, stmt, guard, simple, inserting, placing, deleting, replacing, args, typedefs, typedef, procdefs, procdef, params, params_on, param, output, script}
+use Rattle.flux_grammar.specs.States.{head, end}
+use Rattle.flux_grammar.specs.Machine.{call, mark}
+use Rattle.flux_syntax.specs.At.{at}
+use Rattle.flux_syntax.specs.Steps.{path_and_value, path_and_other}
+use Rattle.flux_syntax.proofs.Chosen.{is_here, not_here}
+use Rattle.flux_syntax.proofs.Leads.{here, passes, same_tree, into, into_at, took, given, given_by, marked, begun, turned, gives, gives_as, gives_all, makes, ends, part_stops, piece_stops, reading_stops, none_here}
+use Rattle.flux_syntax.proofs.QueryChoices.{var_here}
+use Rattle.flux_syntax.proofs.StatementChoices.{same_guard, no_slashes, free_step, tested_spot, no_filter, stmt_deep, no_nexts, ended, goes_on, simple_stmt, unguarded, no_simple, no_inserting, no_placing, deletes_path, replaces_path, some_args, no_typedefs, no_procdefs, some_params, no_params_on, no_output}
+use Rattle.flux_syntax.proofs.reader.Reader.script.Goals as goal
+
+pub returns-in_err-types-clause-parses : goal.returns-in_err-types-clause-parses
+returns-in_err-types-clause-parses c =
+    part_stops (at c.type_definitions.new.self) c.from_residual.result c.in_err-types.field-0.0 (into (here (call script) (at c.args.self.now)) tt (λ k. refl)) (err_from_is_err_and _ c.from_residual.ensures.1) c.in_err-types.ensures.parses
+
+pub returns-in_err-procs-clause-parses : goal.returns-in_err-procs-clause-parses
+returns-in_err-procs-clause-parses c =
+    part_stops (at c.procedures.new.self) c.from_residual-in_err-procs.result c.in_err-procs.field-0.0 (given (into (here (call script) (at c.args.self.now)) tt (λ k. refl)) c.in_ok-types.ensures.parses) (err_from_is_err_and _ c.from_residual-in_err-procs.ensures.1) c.in_err-procs.ensures.parses
+
+pub returns-in_err-take_word-clause-parses : goal.returns-in_err-take_word-clause-parses
+returns-in_err-take_word-clause-parses c =
+    piece_stops (at c.take_word.new.self) c.from_residual-in_err-take_word.result c.in_err-take_word.field-0.0 (given (given (into (here (call script) (at c.args.self.now)) tt (λ k. refl)) c.in_ok-types.ensures.parses) c.in_ok-procs.ensures.parses) (err_from_is_err_and _ c.from_residual-in_err-take_word.ensures.1) c.in_err-take_word.ensures.took
+
+pub returns-in_err-input-clause-parses : goal.returns-in_err-input-clause-parses
+returns-in_err-input-clause-parses c =
+    part_stops (at c.type_text.new.self) c.from_residual-in_err-input.result c.in_err-input.field-0.0 (took (given (given (into (here (call script) (at c.args.self.now)) tt (λ k. refl)) c.in_ok-types.ensures.parses) c.in_ok-procs.ensures.parses) c.in_ok-take_word.ensures.took) (err_from_is_err_and _ c.from_residual-in_err-input.ensures.1) c.in_err-input.ensures.parses
+
+pub returns-in_err-output-clause-parses : goal.returns-in_err-output-clause-parses
+returns-in_err-output-clause-parses c =
+    part_stops (at c.output.new.self) c.from_residual-in_err-output.result c.in_err-output.field-0.0 (given (took (given (given (into (here (call script) (at c.args.self.now)) tt (λ k. refl)) c.in_ok-types.ensures.parses) c.in_ok-procs.ensures.parses) c.in_ok-take_word.ensures.took) c.in_ok-input.ensures.parses) (err_from_is_err_and _ c.from_residual-in_err-output.ensures.1) c.in_err-output.ensures.parses
+
+pub returns-in_err-take_word-2-clause-parses : goal.returns-in_err-take_word-2-clause-parses
+returns-in_err-take_word-2-clause-parses c =
+    piece_stops (at c.take_word-2.new.self) c.from_residual-in_err-take_word-2.result c.in_err-take_word-2.field-0.0 (given (given (took (given (given (into (here (call script) (at c.args.self.now)) tt (λ k. refl)) c.in_ok-types.ensures.parses) c.in_ok-procs.ensures.parses) c.in_ok-take_word.ensures.took) c.in_ok-input.ensures.parses) c.in_ok-output.ensures.parses) (err_from_is_err_and _ c.from_residual-in_err-take_word-2.ensures.1) c.in_err-take_word-2.ensures.took
+
+pub returns-in_err-body-clause-parses : goal.returns-in_err-body-clause-parses
+returns-in_err-body-clause-parses c =
+    part_stops (at c.statements.new.self) c.from_residual-in_err-body.result c.in_err-body.field-0.0 (took (given (given (took (given (given (into (here (call script) (at c.args.self.now)) tt (λ k. refl)) c.in_ok-types.ensures.parses) c.in_ok-procs.ensures.parses) c.in_ok-take_word.ensures.took) c.in_ok-input.ensures.parses) c.in_ok-output.ensures.parses) c.in_ok-take_word-2.ensures.took) (err_from_is_err_and _ c.from_residual-in_err-body.ensures.1) c.in_err-body.ensures.parses
+
+pub returns-clause-parses : goal.returns-clause-parses
+returns-clause-parses c =
+    gives (given (took (given (given (took (given (given (into (here (call script) (at c.args.self.now)) tt (λ k. refl)) c.in_ok-types.ensures.parses) c.in_ok-procs.ensures.parses) c.in_ok-take_word.ensures.took) c.in_ok-input.ensures.parses) c.in_ok-output.ensures.parses) c.in_ok-take_word-2.ensures.took) c.in_ok-body.ensures.parses)

@@ -1,0 +1,36 @@
+use Rattle.std.proofs.Common.{◌≡◌, ◌+◌, ◌++◌, List, [], ◌∷◌, Some, None, Ok, Err, refl, sym, ap, ◌∙◌, arith}
+use Rattle.std.proofs.lemmas.Result.{err_from_is_err_and}
+use Rattle.flux_grammar.specs.declared.lexeme.Keyword.TheVariants as key
+use Rattle.flux_grammar.specs.declared.lexeme.Lexeme.TheVariants.{Reserved, Sign, Var}
+use Rattle.flux_grammar.specs.declared.lexeme.Sign.TheVariants as sign
+use Rattle.flux_grammar.specs.declared.tree.Stmt.TheVariants as st
+use Rattle.flux_grammar.specs.Grammar.{spanning, path, slashes, step, spot, filtered, expr, stmts, nexts, ending, stmt, guard, simple, inserting, placing, deleting, replacing, args, typedefs, typedef, procdefs, procdef, params, params_on, param, output, script}
+use Rattle.flux_grammar.specs.States.{head, end}
+use Rattle.flux_grammar.specs.Machine.{call, mark}
+use Rattle.flux_syntax.specs.At.{at}
+use Rattle.flux_syntax.specs.Steps.{path_and_value, path_and_other}
+use Rattle.flux_syntax.proofs.Chosen.{is_here, not_here}
+use Rattle.flux_syntax.proofs.Leads.{here, passes, same_tree, into, into_at, took, given, given_by, marked, begun, turned, gives, gives_as, gives_all, makes, ends, part_stops, piece_stops, reading_stops, none_here}
+use Rattle.flux_syntax.proofs.QueryChoices.{var_here}
+use Rattle.flux_syntax.proofs.StatementChoices.{same_guard, no_slashes, free_step, tested_spot, no_filter, stmt_deep, no_nexts, ended, goes_on, simple_stmt, unguarded, no_simple, no_inserting, no_placing, deletes_path, replaces_path, some_args, no_typedefs, no_procdefs, some_params, no_params_on, no_output}
+use Rattle.flux_syntax.proofs.reader.Reader.slashes.Goals as goal
+
+pub loop-self-init : goal.loop-self-init
+loop-self-init c =
+    record { same = refl; shorter = omega arith; on = begun (call (slashes c.args.depth)) c.new-all.ensures }
+
+pub returns-in_err-next-clause-parses : goal.returns-in_err-next-clause-parses
+returns-in_err-next-clause-parses c =
+    part_stops (at c.step.new.self) c.from_residual.result c.in_err-next.field-0.0 (took (into_at c.loop-self.invariant.on tt (is_here c.is_at.ensures.here c.loop-self-test.true) (λ k. refl)) (c.advance.ensures.took (Sign sign.Slash) (is_here c.is_at.ensures.here c.loop-self-test.true))) (err_from_is_err_and _ c.from_residual.ensures.1) c.in_err-next.ensures.parses
+
+pub loop-self-preserved : goal.loop-self-preserved
+loop-self-preserved c =
+    record {
+      same = c.loop-self.invariant.same;
+      shorter = omega arith;
+      on = turned (call (slashes c.args.depth)) c.loop-self.all c.in_ok-next.next c.in_ok-push.ensures.ok (given (took (into_at c.loop-self.invariant.on tt (is_here c.is_at.ensures.here c.loop-self-test.true) (λ k. refl)) (c.advance.ensures.took (Sign sign.Slash) (is_here c.is_at.ensures.here c.loop-self-test.true))) c.in_ok-next.ensures.parses);
+    }
+
+pub returns-clause-parses : goal.returns-clause-parses
+returns-clause-parses c =
+    gives_all (into c.loop-self.invariant.on tt (no_slashes c.args.depth (head (at c.loop-self.self)) (not_here c.is_at.ensures.here c.loop-self-test.false)))

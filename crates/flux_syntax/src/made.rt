@@ -1,0 +1,142 @@
+// Queries and types over their parts, which are boxed.
+ghost use Rattle.std.specs.Prelude.{◌≡◌, ◌∷◌};
+ghost use Rattle.flux_grammar.specs.declared.tree.Expr.TheVariants as ex;
+ghost use Rattle.flux_grammar.specs.Grammar.{spanning, list_of};
+ghost use Rattle.flux_grammar.specs.Spans.{expr_span};
+ghost use Rattle.flux_syntax.specs.Parses.{Made};
+
+use crate::reader::Fault;
+use flux_atom::{Boxed, Items, Name};
+use flux_calculus::Span;
+use flux_grammar::{Expr, Path, Step, TestText};
+use std::alloc::Global;
+
+/// The first item and the others, in one list.
+pub(crate) fn prepended<T: Drop>(alloc: Global, first: T, rest: Items<T>) -> Result<Items<T>, Fault>
+    ensures { Made (first ∷ rest) result }
+{
+    let mut all = Items::new(alloc);
+    all.push(first)?;
+    all.append(rest)?;
+    Ok(all)
+}
+
+pub(crate) fn made_path(alloc: Global, first: Step, rest: Items<Step>) -> Result<Path, Fault>
+    ensures { Made (record { steps = first ∷ rest }) result }
+{
+    let steps = prepended(alloc, first, rest)?;
+    Ok(Path { steps })
+}
+
+pub(crate) fn made_list(
+    alloc: Global,
+    first: Expr,
+    rest: Items<Expr>,
+    to: u32,
+) -> Result<Expr, Fault>
+    ensures { Made (list_of first rest to) result }
+{
+    if rest.is_empty() {
+        return Ok(first);
+    }
+    let from = first.span().from;
+    let mut all = Items::new(alloc);
+    all.push(first)?;
+    all.append(rest)?;
+    Ok(Expr::List(all, Span { from, to }))
+}
+
+pub(crate) fn made_for(
+    alloc: Global,
+    name: Name,
+    over: Expr,
+    body: Expr,
+    span: Span,
+) -> Result<Expr, Fault>
+    ensures { Made (ex.For name over body span) result }
+{
+    Ok(Expr::For(
+        name,
+        Boxed::new(alloc, over)?,
+        Boxed::new(alloc, body)?,
+        span,
+    ))
+}
+
+pub(crate) fn made_let(
+    alloc: Global,
+    name: Name,
+    bound: Expr,
+    body: Expr,
+    span: Span,
+) -> Result<Expr, Fault>
+    ensures { Made (ex.Let name bound body span) result }
+{
+    Ok(Expr::Let(
+        name,
+        Boxed::new(alloc, bound)?,
+        Boxed::new(alloc, body)?,
+        span,
+    ))
+}
+
+pub(crate) fn made_if(
+    alloc: Global,
+    test: Expr,
+    yes: Expr,
+    no: Expr,
+    span: Span,
+) -> Result<Expr, Fault>
+    ensures { Made (ex.If test yes no span) result }
+{
+    let test = Boxed::new(alloc, test)?;
+    Ok(Expr::If(test, Boxed::new(alloc, yes)?, Boxed::new(alloc, no)?, span))
+}
+
+pub(crate) fn made_same(alloc: Global, left: Expr, right: Expr, to: u32) -> Result<Expr, Fault>
+    ensures { Made (ex.Same left right (spanning (expr_span left).from to)) result }
+{
+    let from = left.span().from;
+    Ok(Expr::Same(
+        Boxed::new(alloc, left)?,
+        Boxed::new(alloc, right)?,
+        Span { from, to },
+    ))
+}
+
+pub(crate) fn made_less(alloc: Global, left: Expr, right: Expr, to: u32) -> Result<Expr, Fault>
+    ensures { Made (ex.Less left right (spanning (expr_span left).from to)) result }
+{
+    let from = left.span().from;
+    Ok(Expr::Less(
+        Boxed::new(alloc, left)?,
+        Boxed::new(alloc, right)?,
+        Span { from, to },
+    ))
+}
+
+pub(crate) fn made_down(alloc: Global, inner: Expr, test: TestText, to: u32) -> Result<Expr, Fault>
+    ensures { Made (ex.Down inner test (spanning (expr_span inner).from to)) result }
+{
+    let from = inner.span().from;
+    Ok(Expr::Down(Boxed::new(alloc, inner)?, test, Span { from, to }))
+}
+
+pub(crate) fn made_child(alloc: Global, inner: Expr, to: u32) -> Result<Expr, Fault>
+    ensures { Made (ex.Child inner (spanning (expr_span inner).from to)) result }
+{
+    let from = inner.span().from;
+    Ok(Expr::Child(Boxed::new(alloc, inner)?, Span { from, to }))
+}
+
+pub(crate) fn made_filter(
+    alloc: Global,
+    inner: Expr,
+    test: TestText,
+    to: u32,
+) -> Result<Expr, Fault>
+    ensures { Made (ex.Filter inner test (spanning (expr_span inner).from to)) result }
+{
+    let from = inner.span().from;
+    Ok(Expr::Filter(Boxed::new(alloc, inner)?, test, Span { from, to }))
+}
