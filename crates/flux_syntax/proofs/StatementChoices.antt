@@ -1,5 +1,5 @@
 -- What is chosen of paths, statements and scripts.
-use Rattle.std.proofs.Common.{◌≡◌, ℕ, ◌+◌, ◌<◌, ◌≤◌, List, [], ◌∷◌, Option, Some, None, ◌↔◌, refl, sym, subst, arith}
+use Rattle.std.proofs.Common.{◌≡◌, ℕ, ◌+◌, ◌<◌, ◌≤◌, List, [], ◌∷◌, Option, Some, None, ◌↔◌, refl, sym, ap, ap₂, subst, arith}
 use Rattle.flux_grammar.specs.declared.lexeme.Keyword.TheVariants as key
 use Rattle.flux_grammar.specs.declared.lexeme.Lexeme.{Lexeme}
 use Rattle.flux_grammar.specs.declared.lexeme.Lexeme.TheVariants.{Reserved, Sign, Var}
@@ -7,6 +7,8 @@ use Rattle.flux_grammar.specs.declared.lexeme.Sign.TheVariants as sign
 use Rattle.flux_grammar.specs.declared.tree.Expr.{Expr}
 use Rattle.flux_grammar.specs.declared.tree.ParamDef.{ParamDef}
 use Rattle.flux_grammar.specs.declared.tree.ProcDef.{ProcDef}
+use Rattle.flux_calculus.specs.declared.ask.Span.{Span}
+use Rattle.flux_grammar.specs.declared.tree.Script.{Script}
 use Rattle.flux_grammar.specs.declared.tree.Step.{Step}
 use Rattle.flux_grammar.specs.declared.tree.Stmt.{Stmt}
 use Rattle.flux_grammar.specs.declared.tree.Stmt.TheVariants as st
@@ -137,3 +139,15 @@ no_params_on _ n k = refl
 pub no_output : (h : Option Lexeme) → (h ≡ Some (Reserved key.Output) → ⊥) → (k : Option TypeText → Prog) → body output h k ≡ Some (k None)
 no_output (Some (Reserved key.Output)) n k = absurd (n refl)
 no_output _ n k = refl
+
+pub with_types : {n : ℕ} {at : Span} {pms : List ParamDef} {t u v w : TypeText} {ss : List Stmt} → t ≡ u → v ≡ w → ◌≡◌ {A = ProcDef} (record { name = n; at = at; params = pms; focus = t; result = v; body = ss }) (record { name = n; at = at; params = pms; focus = u; result = w; body = ss })
+with_types {n = n} {at = at} {pms = pms} {ss = ss} e f = ap₂ (λ t v. record { name = n; at = at; params = pms; focus = t; result = v; body = ss }) e f
+
+pub with_input : {ts : List TypeDef} {ps : List ProcDef} {t u : TypeText} {o : Option TypeText} {ss : List Stmt} → t ≡ u → ◌≡◌ {A = Script} (record { types = ts; procs = ps; input = t; output = o; body = ss }) (record { types = ts; procs = ps; input = u; output = o; body = ss })
+with_input {ts = ts} {ps = ps} {o = o} {ss = ss} e = ap (λ t. record { types = ts; procs = ps; input = t; output = o; body = ss }) e
+
+pub with_bound : {n : ℕ} {q r : Expr} {at : Span} (s : Stmt) → q ≡ r → st.Let n q s at ≡ st.Let n r s at
+with_bound {n = n} {at = at} s e = ap (λ q. st.Let n q s at) e
+
+pub with_test : {q r : Expr} {at : Span} (s t : Stmt) → q ≡ r → st.If q s t at ≡ st.If r s t at
+with_test {at = at} s t e = ap (λ q. st.If q s t at) e

@@ -12,6 +12,8 @@ mod queries;
 mod reader;
 mod scripts;
 mod statements;
+#[cfg(test)]
+mod tests;
 mod trees;
 mod types;
 mod words;

@@ -6,7 +6,7 @@ ghost use Rattle.flux_grammar.specs.Spans.{expr_span};
 ghost use Rattle.flux_syntax.specs.Parses.{Made};
 
 use crate::reader::Fault;
-use flux_atom::{Boxed, Items, Name};
+use flux_atom::{Boxed, Items};
 use flux_calculus::Span;
 use flux_grammar::{Expr, Path, Step, TestText};
 use std::alloc::Global;
@@ -44,53 +44,6 @@ pub(crate) fn made_list(
     all.push(first)?;
     all.append(rest)?;
     Ok(Expr::List(all, Span { from, to }))
-}
-
-pub(crate) fn made_for(
-    alloc: Global,
-    name: Name,
-    over: Expr,
-    body: Expr,
-    span: Span,
-) -> Result<Expr, Fault>
-    ensures { Made (ex.For name over body span) result }
-{
-    Ok(Expr::For(
-        name,
-        Boxed::new(alloc, over)?,
-        Boxed::new(alloc, body)?,
-        span,
-    ))
-}
-
-pub(crate) fn made_let(
-    alloc: Global,
-    name: Name,
-    bound: Expr,
-    body: Expr,
-    span: Span,
-) -> Result<Expr, Fault>
-    ensures { Made (ex.Let name bound body span) result }
-{
-    Ok(Expr::Let(
-        name,
-        Boxed::new(alloc, bound)?,
-        Boxed::new(alloc, body)?,
-        span,
-    ))
-}
-
-pub(crate) fn made_if(
-    alloc: Global,
-    test: Expr,
-    yes: Expr,
-    no: Expr,
-    span: Span,
-) -> Result<Expr, Fault>
-    ensures { Made (ex.If test yes no span) result }
-{
-    let test = Boxed::new(alloc, test)?;
-    Ok(Expr::If(test, Boxed::new(alloc, yes)?, Boxed::new(alloc, no)?, span))
 }
 
 pub(crate) fn made_same(alloc: Global, left: Expr, right: Expr, to: u32) -> Result<Expr, Fault>

@@ -9,10 +9,7 @@ ghost use Rattle.flux_syntax.specs.At.{at, next_literal, IsOther};
 ghost use Rattle.flux_syntax.specs.Parses.{Parses, Gets};
 ghost use Rattle.flux_syntax.specs.Steps.{slash_step, filter_step};
 
-use crate::made::{
-    made_child, made_down, made_filter, made_for, made_if, made_less, made_let, made_list,
-    made_same,
-};
+use crate::made::{made_child, made_down, made_filter, made_less, made_list, made_same};
 use crate::reader::{Fault, LIMIT, Reader};
 use flux_atom::{Atom, Boxed, Items, Name, copy};
 use flux_calculus::Span;
@@ -54,6 +51,27 @@ impl<'a> Reader<'a> {
         let first = self.item(depth)?;
         let rest = self.items(depth)?;
         made_list(self.alloc, first, rest, self.end)
+    }
+
+    /// Reads a query into a box.
+    #[cycle(queries)]
+    pub(crate) fn boxed_query(&mut self, depth: u32) -> Result<Boxed<Expr>, Fault>
+        requires { depth ≤ LIMIT }
+        ensures parses { Parses (expr depth) (at self.old) (at self.new) result }
+        ensures shorter { length self.new.left.now ≤ length self.old.left.now }
+    {
+        let tree = self.query(depth)?;
+        Ok(Boxed::new(self.alloc, tree)?)
+    }
+
+    #[cycle(queries)]
+    fn boxed_item(&mut self, depth: u32) -> Result<Boxed<Expr>, Fault>
+        requires { depth ≤ LIMIT }
+        ensures parses { Parses (item depth) (at self.old) (at self.new) result }
+        ensures shorter { length self.new.left.now ≤ length self.old.left.now }
+    {
+        let tree = self.item(depth)?;
+        Ok(Boxed::new(self.alloc, tree)?)
     }
 
     /// Reads the items that stand behind one.
@@ -106,19 +124,14 @@ impl<'a> Reader<'a> {
         let word = self.advance();
         let (name, _) = self.var()?;
         self.take_word(Keyword::QueryIn)?;
-        let over = self.query(depth + 1)?;
+        let over = self.boxed_query(depth + 1)?;
         self.take_word(Keyword::QueryReturn)?;
-        let body = self.item(depth + 1)?;
-        made_for(
-            self.alloc,
-            name,
-            over,
-            body,
-            Span {
-                from: word.from,
-                to: self.end,
-            },
-        )
+        let body = self.boxed_item(depth + 1)?;
+        let span = Span {
+            from: word.from,
+            to: self.end,
+        };
+        Ok(Expr::For(name, over, body, span))
     }
 
     #[cycle(queries)]
@@ -132,19 +145,14 @@ impl<'a> Reader<'a> {
         let word = self.advance();
         let (name, _) = self.var()?;
         self.take(Sign::Equal)?;
-        let bound = self.query(depth + 1)?;
+        let bound = self.boxed_query(depth + 1)?;
         self.take_word(Keyword::QueryIn)?;
-        let body = self.item(depth + 1)?;
-        made_let(
-            self.alloc,
-            name,
-            bound,
-            body,
-            Span {
-                from: word.from,
-                to: self.end,
-            },
-        )
+        let body = self.boxed_item(depth + 1)?;
+        let span = Span {
+            from: word.from,
+            to: self.end,
+        };
+        Ok(Expr::Let(name, bound, body, span))
     }
 
     #[cycle(queries)]
@@ -156,21 +164,16 @@ impl<'a> Reader<'a> {
         ensures shorter { length self.new.left.now ≤ length self.old.left.now }
     {
         let word = self.advance();
-        let test = self.query(depth + 1)?;
+        let test = self.boxed_query(depth + 1)?;
         self.take_word(Keyword::QueryThen)?;
-        let yes = self.item(depth + 1)?;
+        let yes = self.boxed_item(depth + 1)?;
         self.take_word(Keyword::QueryElse)?;
-        let no = self.item(depth + 1)?;
-        made_if(
-            self.alloc,
-            test,
-            yes,
-            no,
-            Span {
-                from: word.from,
-                to: self.end,
-            },
-        )
+        let no = self.boxed_item(depth + 1)?;
+        let span = Span {
+            from: word.from,
+            to: self.end,
+        };
+        Ok(Expr::If(test, yes, no, span))
     }
 
     #[cycle(queries)]

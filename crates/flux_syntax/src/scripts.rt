@@ -21,14 +21,14 @@ impl<'a> Reader<'a> {
         let types = self.type_definitions()?;
         let procs = self.procedures()?;
         self.take_word(Keyword::Input)?;
-        let input = self.type_text(0)?;
+        let input = self.boxed_type()?;
         let output = self.output()?;
         self.take_word(Keyword::Do)?;
         let body = self.statements(0)?;
         Ok(Script {
             types,
             procs,
-            input,
+            input: input.into_inner(),
             output,
             body,
         })
@@ -84,9 +84,9 @@ impl<'a> Reader<'a> {
         let params = self.parameters()?;
         self.take(Sign::Close)?;
         self.take(Sign::Colon)?;
-        let focus = self.type_text(0)?;
+        let focus = self.boxed_type()?;
         self.take(Sign::Arrow)?;
-        let result = self.type_text(0)?;
+        let result = self.boxed_type()?;
         self.take(Sign::OpenBrace)?;
         let body = self.statements(0)?;
         self.take(Sign::CloseBrace)?;
@@ -94,8 +94,8 @@ impl<'a> Reader<'a> {
             name,
             at,
             params,
-            focus,
-            result,
+            focus: focus.into_inner(),
+            result: result.into_inner(),
             body,
         })
     }

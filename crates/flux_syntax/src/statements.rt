@@ -106,13 +106,13 @@ impl<'a> Reader<'a> {
         ensures shorter { length self.new.left.now ≤ length self.old.left.now }
     {
         let word = self.advance();
-        let test = self.query(depth + 1)?;
+        let test = self.boxed_query(depth + 1)?;
         self.take_word(Keyword::Then)?;
         let yes = self.boxed_statement(depth + 1)?;
         self.take_word(Keyword::Else)?;
         let no = self.boxed_statement(depth + 1)?;
         Ok(Stmt::If(
-            test,
+            test.into_inner(),
             yes,
             no,
             Span {
@@ -133,12 +133,12 @@ impl<'a> Reader<'a> {
         let word = self.advance();
         let (name, _) = self.var()?;
         self.take(Sign::Equal)?;
-        let bound = self.query(depth + 1)?;
+        let bound = self.boxed_query(depth + 1)?;
         self.take_word(Keyword::In)?;
         let body = self.boxed_statement(depth + 1)?;
         Ok(Stmt::Let(
             name,
-            bound,
+            bound.into_inner(),
             body,
             Span {
                 from: word.from,

@@ -137,6 +137,15 @@ impl<'a> Reader<'a> {
         self.marked(inner)
     }
 
+    /// Reads a type that lies inside no other, into a box.
+    pub(crate) fn boxed_type(&mut self) -> Result<Boxed<TypeText>, Fault>
+        ensures parses { Parses (type 0) (at self.old) (at self.new) result }
+        ensures shorter { length self.new.left.now ≤ length self.old.left.now }
+    {
+        let tree = self.type_text(0)?;
+        Ok(Boxed::new(self.alloc, tree)?)
+    }
+
     fn mark(&self) -> Option<Mark>
         ensures mark { result ≡ next_mark (head (at self.now)) }
         ensures more { IsSome result → 0 < length self.now.left.now }

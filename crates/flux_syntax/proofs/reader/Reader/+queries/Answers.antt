@@ -11,7 +11,7 @@ use Rattle.flux_syntax.specs.At.{at}
 use Rattle.flux_syntax.specs.Steps.{slash_step, filter_step}
 use Rattle.flux_syntax.proofs.Chosen.{is_here, not_here}
 use Rattle.flux_syntax.proofs.LabelChoices.{child_here}
-use Rattle.flux_syntax.proofs.Leads.{here, into, into_at, took, given, given_by, marked, begun, turned, gives, gives_as, gives_all, makes, ends, part_stops, piece_stops, reading_stops}
+use Rattle.flux_syntax.proofs.Leads.{here, passes, same_tree, into, into_at, took, given, given_by, marked, begun, turned, gives, gives_as, gives_all, makes, ends, part_stops, piece_stops, reading_stops}
 use Rattle.flux_syntax.proofs.QueryChoices.{item_deep, var_here, literal_here, no_items, plain_item, uncompared, no_steps, plain_step, child_label, is_other, element_here, some_within}
 use Rattle.flux_syntax.proofs.reader.Reader.+queries.Goals as goal
 
@@ -45,7 +45,7 @@ for_item-returns-in_err-take_word-clause-parses t c =
 
 pub for_item-returns-in_err-over-clause-parses : goal.for_item-returns-in_err-over-clause-parses
 for_item-returns-in_err-over-clause-parses t c =
-    part_stops (at c.query.new.self) c.from_residual-in_err-over.result c.in_err-over.field-0.0 (took (given (took (into_at (here (call (item c.args.depth)) (at c.args.self.now)) (λ _. c.requires.depth) c.requires.open (λ k. refl)) (c.advance-word.ensures.took (Reserved key.QueryFor) c.requires.open)) c.in_ok-name.ensures.parses) c.in_ok-take_word.ensures.took) (err_from_is_err_and _ c.from_residual-in_err-over.ensures.1) c.in_err-over.ensures.parses
+    part_stops (at c.boxed_query.new.self) c.from_residual-in_err-over.result c.in_err-over.field-0.0 (took (given (took (into_at (here (call (item c.args.depth)) (at c.args.self.now)) (λ _. c.requires.depth) c.requires.open (λ k. refl)) (c.advance-word.ensures.took (Reserved key.QueryFor) c.requires.open)) c.in_ok-name.ensures.parses) c.in_ok-take_word.ensures.took) (err_from_is_err_and _ c.from_residual-in_err-over.ensures.1) c.in_err-over.ensures.parses
 
 pub for_item-returns-in_err-take_word-2-clause-parses : goal.for_item-returns-in_err-take_word-2-clause-parses
 for_item-returns-in_err-take_word-2-clause-parses t c =
@@ -53,15 +53,15 @@ for_item-returns-in_err-take_word-2-clause-parses t c =
 
 pub for_item-returns-in_err-body-clause-parses : goal.for_item-returns-in_err-body-clause-parses
 for_item-returns-in_err-body-clause-parses t c =
-    part_stops (at c.item.new.self) c.from_residual-in_err-body.result c.in_err-body.field-0.0 (took (given (took (given (took (into_at (here (call (item c.args.depth)) (at c.args.self.now)) (λ _. c.requires.depth) c.requires.open (λ k. refl)) (c.advance-word.ensures.took (Reserved key.QueryFor) c.requires.open)) c.in_ok-name.ensures.parses) c.in_ok-take_word.ensures.took) c.in_ok-over.ensures.parses) c.in_ok-take_word-2.ensures.took) (err_from_is_err_and _ c.from_residual-in_err-body.ensures.1) c.in_err-body.ensures.parses
+    part_stops (at c.boxed_item.new.self) c.from_residual-in_err-body.result c.in_err-body.field-0.0 (took (given (took (given (took (into_at (here (call (item c.args.depth)) (at c.args.self.now)) (λ _. c.requires.depth) c.requires.open (λ k. refl)) (c.advance-word.ensures.took (Reserved key.QueryFor) c.requires.open)) c.in_ok-name.ensures.parses) c.in_ok-take_word.ensures.took) c.in_ok-over.ensures.parses) c.in_ok-take_word-2.ensures.took) (err_from_is_err_and _ c.from_residual-in_err-body.ensures.1) c.in_err-body.ensures.parses
 
 pub for_item-returns-clause-parses : goal.for_item-returns-clause-parses
 for_item-returns-clause-parses t c =
-    makes c.made_for.result c.made_for.ensures (marked (given (took (given (took (given (took (into_at (here (call (item c.args.depth)) (at c.args.self.now)) (λ _. c.requires.depth) c.requires.open (λ k. refl)) (c.advance-word.ensures.took (Reserved key.QueryFor) c.requires.open)) c.in_ok-name.ensures.parses) c.in_ok-take_word.ensures.took) c.in_ok-over.ensures.parses) c.in_ok-take_word-2.ensures.took) c.in_ok-body.ensures.parses))
+    gives (marked (given (took (given (took (given (took (into_at (here (call (item c.args.depth)) (at c.args.self.now)) (λ _. c.requires.depth) c.requires.open (λ k. refl)) (c.advance-word.ensures.took (Reserved key.QueryFor) c.requires.open)) c.in_ok-name.ensures.parses) c.in_ok-take_word.ensures.took) c.in_ok-over.ensures.parses) c.in_ok-take_word-2.ensures.took) c.in_ok-body.ensures.parses))
 
 pub if_item-returns-in_err-test-clause-parses : goal.if_item-returns-in_err-test-clause-parses
 if_item-returns-in_err-test-clause-parses t c =
-    part_stops (at c.query.new.self) c.from_residual.result c.in_err-test.field-0.0 (took (into_at (here (call (item c.args.depth)) (at c.args.self.now)) (λ _. c.requires.depth) c.requires.open (λ k. refl)) (c.advance-word.ensures.took (Reserved key.QueryIf) c.requires.open)) (err_from_is_err_and _ c.from_residual.ensures.1) c.in_err-test.ensures.parses
+    part_stops (at c.boxed_query.new.self) c.from_residual.result c.in_err-test.field-0.0 (took (into_at (here (call (item c.args.depth)) (at c.args.self.now)) (λ _. c.requires.depth) c.requires.open (λ k. refl)) (c.advance-word.ensures.took (Reserved key.QueryIf) c.requires.open)) (err_from_is_err_and _ c.from_residual.ensures.1) c.in_err-test.ensures.parses
 
 pub if_item-returns-in_err-take_word-clause-parses : goal.if_item-returns-in_err-take_word-clause-parses
 if_item-returns-in_err-take_word-clause-parses t c =
@@ -69,7 +69,7 @@ if_item-returns-in_err-take_word-clause-parses t c =
 
 pub if_item-returns-in_err-yes-clause-parses : goal.if_item-returns-in_err-yes-clause-parses
 if_item-returns-in_err-yes-clause-parses t c =
-    part_stops (at c.item.new.self) c.from_residual-in_err-yes.result c.in_err-yes.field-0.0 (took (given (took (into_at (here (call (item c.args.depth)) (at c.args.self.now)) (λ _. c.requires.depth) c.requires.open (λ k. refl)) (c.advance-word.ensures.took (Reserved key.QueryIf) c.requires.open)) c.in_ok-test.ensures.parses) c.in_ok-take_word.ensures.took) (err_from_is_err_and _ c.from_residual-in_err-yes.ensures.1) c.in_err-yes.ensures.parses
+    part_stops (at c.boxed_item.new.self) c.from_residual-in_err-yes.result c.in_err-yes.field-0.0 (took (given (took (into_at (here (call (item c.args.depth)) (at c.args.self.now)) (λ _. c.requires.depth) c.requires.open (λ k. refl)) (c.advance-word.ensures.took (Reserved key.QueryIf) c.requires.open)) c.in_ok-test.ensures.parses) c.in_ok-take_word.ensures.took) (err_from_is_err_and _ c.from_residual-in_err-yes.ensures.1) c.in_err-yes.ensures.parses
 
 pub if_item-returns-in_err-take_word-2-clause-parses : goal.if_item-returns-in_err-take_word-2-clause-parses
 if_item-returns-in_err-take_word-2-clause-parses t c =
@@ -77,11 +77,11 @@ if_item-returns-in_err-take_word-2-clause-parses t c =
 
 pub if_item-returns-in_err-no-clause-parses : goal.if_item-returns-in_err-no-clause-parses
 if_item-returns-in_err-no-clause-parses t c =
-    part_stops (at c.item-2.new.self) c.from_residual-in_err-no.result c.in_err-no.field-0.0 (took (given (took (given (took (into_at (here (call (item c.args.depth)) (at c.args.self.now)) (λ _. c.requires.depth) c.requires.open (λ k. refl)) (c.advance-word.ensures.took (Reserved key.QueryIf) c.requires.open)) c.in_ok-test.ensures.parses) c.in_ok-take_word.ensures.took) c.in_ok-yes.ensures.parses) c.in_ok-take_word-2.ensures.took) (err_from_is_err_and _ c.from_residual-in_err-no.ensures.1) c.in_err-no.ensures.parses
+    part_stops (at c.boxed_item-2.new.self) c.from_residual-in_err-no.result c.in_err-no.field-0.0 (took (given (took (given (took (into_at (here (call (item c.args.depth)) (at c.args.self.now)) (λ _. c.requires.depth) c.requires.open (λ k. refl)) (c.advance-word.ensures.took (Reserved key.QueryIf) c.requires.open)) c.in_ok-test.ensures.parses) c.in_ok-take_word.ensures.took) c.in_ok-yes.ensures.parses) c.in_ok-take_word-2.ensures.took) (err_from_is_err_and _ c.from_residual-in_err-no.ensures.1) c.in_err-no.ensures.parses
 
 pub if_item-returns-clause-parses : goal.if_item-returns-clause-parses
 if_item-returns-clause-parses t c =
-    makes c.made_if.result c.made_if.ensures (marked (given (took (given (took (given (took (into_at (here (call (item c.args.depth)) (at c.args.self.now)) (λ _. c.requires.depth) c.requires.open (λ k. refl)) (c.advance-word.ensures.took (Reserved key.QueryIf) c.requires.open)) c.in_ok-test.ensures.parses) c.in_ok-take_word.ensures.took) c.in_ok-yes.ensures.parses) c.in_ok-take_word-2.ensures.took) c.in_ok-no.ensures.parses))
+    gives (marked (given (took (given (took (given (took (into_at (here (call (item c.args.depth)) (at c.args.self.now)) (λ _. c.requires.depth) c.requires.open (λ k. refl)) (c.advance-word.ensures.took (Reserved key.QueryIf) c.requires.open)) c.in_ok-test.ensures.parses) c.in_ok-take_word.ensures.took) c.in_ok-yes.ensures.parses) c.in_ok-take_word-2.ensures.took) c.in_ok-no.ensures.parses))
 
 pub item-returns-then-depth-ge-LIMIT-clause-parses : goal.item-returns-then-depth-ge-LIMIT-clause-parses
 item-returns-then-depth-ge-LIMIT-clause-parses t c =
@@ -125,7 +125,7 @@ let_item-returns-in_err-take-clause-parses t c =
 
 pub let_item-returns-in_err-bound-clause-parses : goal.let_item-returns-in_err-bound-clause-parses
 let_item-returns-in_err-bound-clause-parses t c =
-    part_stops (at c.query.new.self) c.from_residual-in_err-bound.result c.in_err-bound.field-0.0 (took (given (took (into_at (here (call (item c.args.depth)) (at c.args.self.now)) (λ _. c.requires.depth) c.requires.open (λ k. refl)) (c.advance-word.ensures.took (Reserved key.QueryLet) c.requires.open)) c.in_ok-name.ensures.parses) c.in_ok-take.ensures.took) (err_from_is_err_and _ c.from_residual-in_err-bound.ensures.1) c.in_err-bound.ensures.parses
+    part_stops (at c.boxed_query.new.self) c.from_residual-in_err-bound.result c.in_err-bound.field-0.0 (took (given (took (into_at (here (call (item c.args.depth)) (at c.args.self.now)) (λ _. c.requires.depth) c.requires.open (λ k. refl)) (c.advance-word.ensures.took (Reserved key.QueryLet) c.requires.open)) c.in_ok-name.ensures.parses) c.in_ok-take.ensures.took) (err_from_is_err_and _ c.from_residual-in_err-bound.ensures.1) c.in_err-bound.ensures.parses
 
 pub let_item-returns-in_err-take_word-clause-parses : goal.let_item-returns-in_err-take_word-clause-parses
 let_item-returns-in_err-take_word-clause-parses t c =
@@ -133,11 +133,11 @@ let_item-returns-in_err-take_word-clause-parses t c =
 
 pub let_item-returns-in_err-body-clause-parses : goal.let_item-returns-in_err-body-clause-parses
 let_item-returns-in_err-body-clause-parses t c =
-    part_stops (at c.item.new.self) c.from_residual-in_err-body.result c.in_err-body.field-0.0 (took (given (took (given (took (into_at (here (call (item c.args.depth)) (at c.args.self.now)) (λ _. c.requires.depth) c.requires.open (λ k. refl)) (c.advance-word.ensures.took (Reserved key.QueryLet) c.requires.open)) c.in_ok-name.ensures.parses) c.in_ok-take.ensures.took) c.in_ok-bound.ensures.parses) c.in_ok-take_word.ensures.took) (err_from_is_err_and _ c.from_residual-in_err-body.ensures.1) c.in_err-body.ensures.parses
+    part_stops (at c.boxed_item.new.self) c.from_residual-in_err-body.result c.in_err-body.field-0.0 (took (given (took (given (took (into_at (here (call (item c.args.depth)) (at c.args.self.now)) (λ _. c.requires.depth) c.requires.open (λ k. refl)) (c.advance-word.ensures.took (Reserved key.QueryLet) c.requires.open)) c.in_ok-name.ensures.parses) c.in_ok-take.ensures.took) c.in_ok-bound.ensures.parses) c.in_ok-take_word.ensures.took) (err_from_is_err_and _ c.from_residual-in_err-body.ensures.1) c.in_err-body.ensures.parses
 
 pub let_item-returns-clause-parses : goal.let_item-returns-clause-parses
 let_item-returns-clause-parses t c =
-    makes c.made_let.result c.made_let.ensures (marked (given (took (given (took (given (took (into_at (here (call (item c.args.depth)) (at c.args.self.now)) (λ _. c.requires.depth) c.requires.open (λ k. refl)) (c.advance-word.ensures.took (Reserved key.QueryLet) c.requires.open)) c.in_ok-name.ensures.parses) c.in_ok-take.ensures.took) c.in_ok-bound.ensures.parses) c.in_ok-take_word.ensures.took) c.in_ok-body.ensures.parses))
+    gives (marked (given (took (given (took (given (took (into_at (here (call (item c.args.depth)) (at c.args.self.now)) (λ _. c.requires.depth) c.requires.open (λ k. refl)) (c.advance-word.ensures.took (Reserved key.QueryLet) c.requires.open)) c.in_ok-name.ensures.parses) c.in_ok-take.ensures.took) c.in_ok-bound.ensures.parses) c.in_ok-take_word.ensures.took) c.in_ok-body.ensures.parses))
 
 pub post-returns-in_err-first-clause-parses : goal.post-returns-in_err-first-clause-parses
 post-returns-in_err-first-clause-parses t c =
@@ -214,3 +214,19 @@ within-returns-in_err-inside-clause-parses t c =
 pub within-returns-clause-parses : goal.within-returns-clause-parses
 within-returns-clause-parses t c =
     gives_as (ap Some c.in_ok-new.ensures) (given (into (here (call (within c.args.depth)) (at c.args.self.now)) tt (some_within c.args.depth (head (at c.args.self.now)) (not_here c.is_at.ensures.here c.if-is_at.false) (not_here c.is_at-2.ensures.here c.if-is_at-2.false))) c.in_ok-inside.ensures.parses)
+
+pub boxed_query-returns-in_err-tree-clause-parses : goal.boxed_query-returns-in_err-tree-clause-parses
+boxed_query-returns-in_err-tree-clause-parses t c =
+    passes (call (expr c.args.depth)) (at c.args.self.now) (at c.query.new.self) c.from_residual.result c.in_err-tree.field-0.0 (err_from_is_err_and _ c.from_residual.ensures.1) c.in_err-tree.ensures.parses
+
+pub boxed_query-returns-clause-parses : goal.boxed_query-returns-clause-parses
+boxed_query-returns-clause-parses t c =
+    same_tree c.in_ok-new.ensures c.in_ok-tree.ensures.parses
+
+pub boxed_item-returns-in_err-tree-clause-parses : goal.boxed_item-returns-in_err-tree-clause-parses
+boxed_item-returns-in_err-tree-clause-parses t c =
+    passes (call (item c.args.depth)) (at c.args.self.now) (at c.item.new.self) c.from_residual.result c.in_err-tree.field-0.0 (err_from_is_err_and _ c.from_residual.ensures.1) c.in_err-tree.ensures.parses
+
+pub boxed_item-returns-clause-parses : goal.boxed_item-returns-clause-parses
+boxed_item-returns-clause-parses t c =
+    same_tree c.in_ok-new.ensures c.in_ok-tree.ensures.parses

@@ -50,3 +50,9 @@ invariant-items-loop-self l = record {
 
 abbrev pub decreases-items-loop-self : goal.decreases-items-loop-self
 decreases-items-loop-self l = length l.self.left.now
+
+abbrev pub decreases-boxed_query : goal.decreases-boxed_query
+decreases-boxed_query l = (200 - l.depth) * 16 + 4
+
+abbrev pub decreases-boxed_item : goal.decreases-boxed_item
+decreases-boxed_item l = (200 - l.depth) * 16 + 2

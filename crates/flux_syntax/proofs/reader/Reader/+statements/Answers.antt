@@ -4,7 +4,7 @@ use Rattle.flux_grammar.specs.declared.lexeme.Keyword.TheVariants as key
 use Rattle.flux_grammar.specs.declared.lexeme.Lexeme.TheVariants.{Reserved, Sign, Var}
 use Rattle.flux_grammar.specs.declared.lexeme.Sign.TheVariants as sign
 use Rattle.flux_grammar.specs.declared.tree.Stmt.TheVariants as st
-use Rattle.flux_grammar.specs.Grammar.{spanning, path, slashes, step, spot, filtered, expr, stmts, nexts, ending, stmt, guard, simple, inserting, placing, deleting, replacing, args, typedefs, typedef, procdefs, procdef, params, params_on, param, output, script}
+use Rattle.flux_grammar.specs.Grammar.{spanning, type, path, slashes, step, spot, filtered, expr, stmts, nexts, ending, stmt, guard, simple, inserting, placing, deleting, replacing, args, typedefs, typedef, procdefs, procdef, params, params_on, param, output, script}
 use Rattle.flux_grammar.specs.States.{head, end}
 use Rattle.flux_grammar.specs.Machine.{call, mark}
 use Rattle.flux_syntax.specs.At.{at}
@@ -12,7 +12,7 @@ use Rattle.flux_syntax.specs.Steps.{path_and_value, path_and_other}
 use Rattle.flux_syntax.proofs.Chosen.{is_here, not_here}
 use Rattle.flux_syntax.proofs.Leads.{here, passes, same_tree, into, into_at, took, given, given_by, marked, begun, turned, gives, gives_as, gives_all, makes, ends, part_stops, piece_stops, reading_stops, none_here}
 use Rattle.flux_syntax.proofs.QueryChoices.{var_here}
-use Rattle.flux_syntax.proofs.StatementChoices.{same_guard, no_slashes, free_step, tested_spot, no_filter, stmt_deep, no_nexts, ended, goes_on, simple_stmt, unguarded, no_simple, no_inserting, no_placing, deletes_path, replaces_path, some_args, no_typedefs, no_procdefs, some_params, no_params_on, no_output}
+use Rattle.flux_syntax.proofs.StatementChoices.{same_guard, with_bound, with_test, with_types, with_input, no_slashes, free_step, tested_spot, no_filter, stmt_deep, no_nexts, ended, goes_on, simple_stmt, unguarded, no_simple, no_inserting, no_placing, deletes_path, replaces_path, some_args, no_typedefs, no_procdefs, some_params, no_params_on, no_output}
 use Rattle.flux_syntax.proofs.reader.Reader.+statements.Goals as goal
 
 pub binding-returns-in_err-name-clause-parses : goal.binding-returns-in_err-name-clause-parses
@@ -25,7 +25,7 @@ binding-returns-in_err-take-clause-parses t c =
 
 pub binding-returns-in_err-bound-clause-parses : goal.binding-returns-in_err-bound-clause-parses
 binding-returns-in_err-bound-clause-parses t c =
-    part_stops (at c.query.new.self) c.from_residual-in_err-bound.result c.in_err-bound.field-0.0 (took (given (took (into_at (here (call (stmt c.args.depth)) (at c.args.self.now)) (λ _. c.requires.depth) c.requires.open (λ k. refl)) (c.advance-word.ensures.took (Reserved key.Let) c.requires.open)) c.in_ok-name.ensures.parses) c.in_ok-take.ensures.took) (err_from_is_err_and _ c.from_residual-in_err-bound.ensures.1) c.in_err-bound.ensures.parses
+    part_stops (at c.boxed_query.new.self) c.from_residual-in_err-bound.result c.in_err-bound.field-0.0 (took (given (took (into_at (here (call (stmt c.args.depth)) (at c.args.self.now)) (λ _. c.requires.depth) c.requires.open (λ k. refl)) (c.advance-word.ensures.took (Reserved key.Let) c.requires.open)) c.in_ok-name.ensures.parses) c.in_ok-take.ensures.took) (err_from_is_err_and _ c.from_residual-in_err-bound.ensures.1) c.in_err-bound.ensures.parses
 
 pub binding-returns-in_err-take_word-clause-parses : goal.binding-returns-in_err-take_word-clause-parses
 binding-returns-in_err-take_word-clause-parses t c =
@@ -37,7 +37,7 @@ binding-returns-in_err-body-clause-parses t c =
 
 pub binding-returns-clause-parses : goal.binding-returns-clause-parses
 binding-returns-clause-parses t c =
-    gives (marked (given (took (given (took (given (took (into_at (here (call (stmt c.args.depth)) (at c.args.self.now)) (λ _. c.requires.depth) c.requires.open (λ k. refl)) (c.advance-word.ensures.took (Reserved key.Let) c.requires.open)) c.in_ok-name.ensures.parses) c.in_ok-take.ensures.took) c.in_ok-bound.ensures.parses) c.in_ok-take_word.ensures.took) c.in_ok-body.ensures.parses))
+    gives_as (with_bound c.in_ok-body.body c.into_inner.ensures) (marked (given (took (given (took (given (took (into_at (here (call (stmt c.args.depth)) (at c.args.self.now)) (λ _. c.requires.depth) c.requires.open (λ k. refl)) (c.advance-word.ensures.took (Reserved key.Let) c.requires.open)) c.in_ok-name.ensures.parses) c.in_ok-take.ensures.took) c.in_ok-bound.ensures.parses) c.in_ok-take_word.ensures.took) c.in_ok-body.ensures.parses))
 
 pub block-returns-in_err-body-clause-parses : goal.block-returns-in_err-body-clause-parses
 block-returns-in_err-body-clause-parses t c =
@@ -53,7 +53,7 @@ block-returns-clause-parses t c =
 
 pub conditional-returns-in_err-test-clause-parses : goal.conditional-returns-in_err-test-clause-parses
 conditional-returns-in_err-test-clause-parses t c =
-    part_stops (at c.query.new.self) c.from_residual.result c.in_err-test.field-0.0 (took (into_at (here (call (stmt c.args.depth)) (at c.args.self.now)) (λ _. c.requires.depth) c.requires.open (λ k. refl)) (c.advance-word.ensures.took (Reserved key.If) c.requires.open)) (err_from_is_err_and _ c.from_residual.ensures.1) c.in_err-test.ensures.parses
+    part_stops (at c.boxed_query.new.self) c.from_residual.result c.in_err-test.field-0.0 (took (into_at (here (call (stmt c.args.depth)) (at c.args.self.now)) (λ _. c.requires.depth) c.requires.open (λ k. refl)) (c.advance-word.ensures.took (Reserved key.If) c.requires.open)) (err_from_is_err_and _ c.from_residual.ensures.1) c.in_err-test.ensures.parses
 
 pub conditional-returns-in_err-take_word-clause-parses : goal.conditional-returns-in_err-take_word-clause-parses
 conditional-returns-in_err-take_word-clause-parses t c =
@@ -73,7 +73,7 @@ conditional-returns-in_err-no-clause-parses t c =
 
 pub conditional-returns-clause-parses : goal.conditional-returns-clause-parses
 conditional-returns-clause-parses t c =
-    gives (marked (given (took (given (took (given (took (into_at (here (call (stmt c.args.depth)) (at c.args.self.now)) (λ _. c.requires.depth) c.requires.open (λ k. refl)) (c.advance-word.ensures.took (Reserved key.If) c.requires.open)) c.in_ok-test.ensures.parses) c.in_ok-take_word.ensures.took) c.in_ok-yes.ensures.parses) c.in_ok-take_word-2.ensures.took) c.in_ok-no.ensures.parses))
+    gives_as (with_test c.in_ok-yes.yes c.in_ok-no.no c.into_inner.ensures) (marked (given (took (given (took (given (took (into_at (here (call (stmt c.args.depth)) (at c.args.self.now)) (λ _. c.requires.depth) c.requires.open (λ k. refl)) (c.advance-word.ensures.took (Reserved key.If) c.requires.open)) c.in_ok-test.ensures.parses) c.in_ok-take_word.ensures.took) c.in_ok-yes.ensures.parses) c.in_ok-take_word-2.ensures.took) c.in_ok-no.ensures.parses))
 
 pub simple-returns-then-is_at_word-clause-parses : goal.simple-returns-then-is_at_word-clause-parses
 simple-returns-then-is_at_word-clause-parses t c =

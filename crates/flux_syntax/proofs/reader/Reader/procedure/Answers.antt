@@ -4,7 +4,7 @@ use Rattle.flux_grammar.specs.declared.lexeme.Keyword.TheVariants as key
 use Rattle.flux_grammar.specs.declared.lexeme.Lexeme.TheVariants.{Reserved, Sign, Var}
 use Rattle.flux_grammar.specs.declared.lexeme.Sign.TheVariants as sign
 use Rattle.flux_grammar.specs.declared.tree.Stmt.TheVariants as st
-use Rattle.flux_grammar.specs.Grammar.{spanning, path, slashes, step, spot, filtered, expr, stmts, nexts, ending, stmt, guard, simple, inserting, placing, deleting, replacing, args, typedefs, typedef, procdefs, procdef, params, params_on, param, output, script}
+use Rattle.flux_grammar.specs.Grammar.{spanning, type, path, slashes, step, spot, filtered, expr, stmts, nexts, ending, stmt, guard, simple, inserting, placing, deleting, replacing, args, typedefs, typedef, procdefs, procdef, params, params_on, param, output, script}
 use Rattle.flux_grammar.specs.States.{head, end}
 use Rattle.flux_grammar.specs.Machine.{call, mark}
 use Rattle.flux_syntax.specs.At.{at}
@@ -12,7 +12,7 @@ use Rattle.flux_syntax.specs.Steps.{path_and_value, path_and_other}
 use Rattle.flux_syntax.proofs.Chosen.{is_here, not_here}
 use Rattle.flux_syntax.proofs.Leads.{here, passes, same_tree, into, into_at, took, given, given_by, marked, begun, turned, gives, gives_as, gives_all, makes, ends, part_stops, piece_stops, reading_stops, none_here}
 use Rattle.flux_syntax.proofs.QueryChoices.{var_here}
-use Rattle.flux_syntax.proofs.StatementChoices.{same_guard, no_slashes, free_step, tested_spot, no_filter, stmt_deep, no_nexts, ended, goes_on, simple_stmt, unguarded, no_simple, no_inserting, no_placing, deletes_path, replaces_path, some_args, no_typedefs, no_procdefs, some_params, no_params_on, no_output}
+use Rattle.flux_syntax.proofs.StatementChoices.{same_guard, with_bound, with_test, with_types, with_input, no_slashes, free_step, tested_spot, no_filter, stmt_deep, no_nexts, ended, goes_on, simple_stmt, unguarded, no_simple, no_inserting, no_placing, deletes_path, replaces_path, some_args, no_typedefs, no_procdefs, some_params, no_params_on, no_output}
 use Rattle.flux_syntax.proofs.reader.Reader.procedure.Goals as goal
 
 pub returns-in_err-name-clause-parses : goal.returns-in_err-name-clause-parses
@@ -37,7 +37,7 @@ returns-in_err-take-3-clause-parses c =
 
 pub returns-in_err-focus-clause-parses : goal.returns-in_err-focus-clause-parses
 returns-in_err-focus-clause-parses c =
-    part_stops (at c.type_text.new.self) c.from_residual-in_err-focus.result c.in_err-focus.field-0.0 (took (took (given (took (given (took (into_at (here (call procdef) (at c.args.self.now)) tt c.requires.open (λ k. refl)) (c.advance.ensures.took (Reserved key.Procedure) c.requires.open)) c.in_ok-name.ensures.parses) c.in_ok-take.ensures.took) c.in_ok-params.ensures.parses) c.in_ok-take-2.ensures.took) c.in_ok-take-3.ensures.took) (err_from_is_err_and _ c.from_residual-in_err-focus.ensures.1) c.in_err-focus.ensures.parses
+    part_stops (at c.boxed_type.new.self) c.from_residual-in_err-focus.result c.in_err-focus.field-0.0 (took (took (given (took (given (took (into_at (here (call procdef) (at c.args.self.now)) tt c.requires.open (λ k. refl)) (c.advance.ensures.took (Reserved key.Procedure) c.requires.open)) c.in_ok-name.ensures.parses) c.in_ok-take.ensures.took) c.in_ok-params.ensures.parses) c.in_ok-take-2.ensures.took) c.in_ok-take-3.ensures.took) (err_from_is_err_and _ c.from_residual-in_err-focus.ensures.1) c.in_err-focus.ensures.parses
 
 pub returns-in_err-take-4-clause-parses : goal.returns-in_err-take-4-clause-parses
 returns-in_err-take-4-clause-parses c =
@@ -45,7 +45,7 @@ returns-in_err-take-4-clause-parses c =
 
 pub returns-in_err-result-clause-parses : goal.returns-in_err-result-clause-parses
 returns-in_err-result-clause-parses c =
-    part_stops (at c.type_text-2.new.self) c.from_residual-in_err-result.result c.in_err-result.field-0.0 (took (given (took (took (given (took (given (took (into_at (here (call procdef) (at c.args.self.now)) tt c.requires.open (λ k. refl)) (c.advance.ensures.took (Reserved key.Procedure) c.requires.open)) c.in_ok-name.ensures.parses) c.in_ok-take.ensures.took) c.in_ok-params.ensures.parses) c.in_ok-take-2.ensures.took) c.in_ok-take-3.ensures.took) c.in_ok-focus.ensures.parses) c.in_ok-take-4.ensures.took) (err_from_is_err_and _ c.from_residual-in_err-result.ensures.1) c.in_err-result.ensures.parses
+    part_stops (at c.boxed_type-2.new.self) c.from_residual-in_err-result.result c.in_err-result.field-0.0 (took (given (took (took (given (took (given (took (into_at (here (call procdef) (at c.args.self.now)) tt c.requires.open (λ k. refl)) (c.advance.ensures.took (Reserved key.Procedure) c.requires.open)) c.in_ok-name.ensures.parses) c.in_ok-take.ensures.took) c.in_ok-params.ensures.parses) c.in_ok-take-2.ensures.took) c.in_ok-take-3.ensures.took) c.in_ok-focus.ensures.parses) c.in_ok-take-4.ensures.took) (err_from_is_err_and _ c.from_residual-in_err-result.ensures.1) c.in_err-result.ensures.parses
 
 pub returns-in_err-take-5-clause-parses : goal.returns-in_err-take-5-clause-parses
 returns-in_err-take-5-clause-parses c =
@@ -61,4 +61,4 @@ returns-in_err-take-6-clause-parses c =
 
 pub returns-clause-parses : goal.returns-clause-parses
 returns-clause-parses c =
-    gives (took (given (took (given (took (given (took (took (given (took (given (took (into_at (here (call procdef) (at c.args.self.now)) tt c.requires.open (λ k. refl)) (c.advance.ensures.took (Reserved key.Procedure) c.requires.open)) c.in_ok-name.ensures.parses) c.in_ok-take.ensures.took) c.in_ok-params.ensures.parses) c.in_ok-take-2.ensures.took) c.in_ok-take-3.ensures.took) c.in_ok-focus.ensures.parses) c.in_ok-take-4.ensures.took) c.in_ok-result.ensures.parses) c.in_ok-take-5.ensures.took) c.in_ok-body.ensures.parses) c.in_ok-take-6.ensures.took)
+    gives_as (with_types c.into_inner.ensures c.into_inner-2.ensures) (took (given (took (given (took (given (took (took (given (took (given (took (into_at (here (call procdef) (at c.args.self.now)) tt c.requires.open (λ k. refl)) (c.advance.ensures.took (Reserved key.Procedure) c.requires.open)) c.in_ok-name.ensures.parses) c.in_ok-take.ensures.took) c.in_ok-params.ensures.parses) c.in_ok-take-2.ensures.took) c.in_ok-take-3.ensures.took) c.in_ok-focus.ensures.parses) c.in_ok-take-4.ensures.took) c.in_ok-result.ensures.parses) c.in_ok-take-5.ensures.took) c.in_ok-body.ensures.parses) c.in_ok-take-6.ensures.took)

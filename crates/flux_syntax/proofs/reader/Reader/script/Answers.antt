@@ -4,7 +4,7 @@ use Rattle.flux_grammar.specs.declared.lexeme.Keyword.TheVariants as key
 use Rattle.flux_grammar.specs.declared.lexeme.Lexeme.TheVariants.{Reserved, Sign, Var}
 use Rattle.flux_grammar.specs.declared.lexeme.Sign.TheVariants as sign
 use Rattle.flux_grammar.specs.declared.tree.Stmt.TheVariants as st
-use Rattle.flux_grammar.specs.Grammar.{spanning, path, slashes, step, spot, filtered, expr, stmts, nexts, ending, stmt, guard, simple, inserting, placing, deleting, replacing, args, typedefs, typedef, procdefs, procdef, params, params_on, param, output, script}
+use Rattle.flux_grammar.specs.Grammar.{spanning, type, path, slashes, step, spot, filtered, expr, stmts, nexts, ending, stmt, guard, simple, inserting, placing, deleting, replacing, args, typedefs, typedef, procdefs, procdef, params, params_on, param, output, script}
 use Rattle.flux_grammar.specs.States.{head, end}
 use Rattle.flux_grammar.specs.Machine.{call, mark}
 use Rattle.flux_syntax.specs.At.{at}
@@ -12,7 +12,7 @@ use Rattle.flux_syntax.specs.Steps.{path_and_value, path_and_other}
 use Rattle.flux_syntax.proofs.Chosen.{is_here, not_here}
 use Rattle.flux_syntax.proofs.Leads.{here, passes, same_tree, into, into_at, took, given, given_by, marked, begun, turned, gives, gives_as, gives_all, makes, ends, part_stops, piece_stops, reading_stops, none_here}
 use Rattle.flux_syntax.proofs.QueryChoices.{var_here}
-use Rattle.flux_syntax.proofs.StatementChoices.{same_guard, no_slashes, free_step, tested_spot, no_filter, stmt_deep, no_nexts, ended, goes_on, simple_stmt, unguarded, no_simple, no_inserting, no_placing, deletes_path, replaces_path, some_args, no_typedefs, no_procdefs, some_params, no_params_on, no_output}
+use Rattle.flux_syntax.proofs.StatementChoices.{same_guard, with_bound, with_test, with_types, with_input, no_slashes, free_step, tested_spot, no_filter, stmt_deep, no_nexts, ended, goes_on, simple_stmt, unguarded, no_simple, no_inserting, no_placing, deletes_path, replaces_path, some_args, no_typedefs, no_procdefs, some_params, no_params_on, no_output}
 use Rattle.flux_syntax.proofs.reader.Reader.script.Goals as goal
 
 pub returns-in_err-types-clause-parses : goal.returns-in_err-types-clause-parses
@@ -29,7 +29,7 @@ returns-in_err-take_word-clause-parses c =
 
 pub returns-in_err-input-clause-parses : goal.returns-in_err-input-clause-parses
 returns-in_err-input-clause-parses c =
-    part_stops (at c.type_text.new.self) c.from_residual-in_err-input.result c.in_err-input.field-0.0 (took (given (given (into (here (call script) (at c.args.self.now)) tt (λ k. refl)) c.in_ok-types.ensures.parses) c.in_ok-procs.ensures.parses) c.in_ok-take_word.ensures.took) (err_from_is_err_and _ c.from_residual-in_err-input.ensures.1) c.in_err-input.ensures.parses
+    part_stops (at c.boxed_type.new.self) c.from_residual-in_err-input.result c.in_err-input.field-0.0 (took (given (given (into (here (call script) (at c.args.self.now)) tt (λ k. refl)) c.in_ok-types.ensures.parses) c.in_ok-procs.ensures.parses) c.in_ok-take_word.ensures.took) (err_from_is_err_and _ c.from_residual-in_err-input.ensures.1) c.in_err-input.ensures.parses
 
 pub returns-in_err-output-clause-parses : goal.returns-in_err-output-clause-parses
 returns-in_err-output-clause-parses c =
@@ -45,4 +45,4 @@ returns-in_err-body-clause-parses c =
 
 pub returns-clause-parses : goal.returns-clause-parses
 returns-clause-parses c =
-    gives (given (took (given (given (took (given (given (into (here (call script) (at c.args.self.now)) tt (λ k. refl)) c.in_ok-types.ensures.parses) c.in_ok-procs.ensures.parses) c.in_ok-take_word.ensures.took) c.in_ok-input.ensures.parses) c.in_ok-output.ensures.parses) c.in_ok-take_word-2.ensures.took) c.in_ok-body.ensures.parses)
+    gives_as (with_input c.into_inner.ensures) (given (took (given (given (took (given (given (into (here (call script) (at c.args.self.now)) tt (λ k. refl)) c.in_ok-types.ensures.parses) c.in_ok-procs.ensures.parses) c.in_ok-take_word.ensures.took) c.in_ok-input.ensures.parses) c.in_ok-output.ensures.parses) c.in_ok-take_word-2.ensures.took) c.in_ok-body.ensures.parses)

@@ -11,7 +11,7 @@ use Rattle.flux_syntax.specs.At.{at}
 use Rattle.flux_syntax.specs.Steps.{slash_step, filter_step}
 use Rattle.flux_syntax.proofs.Chosen.{is_here, not_here}
 use Rattle.flux_syntax.proofs.LabelChoices.{child_here}
-use Rattle.flux_syntax.proofs.Leads.{here, into, into_at, took, given, given_by, marked, begun, turned, gives, gives_as, gives_all, makes, ends, part_stops, piece_stops, reading_stops}
+use Rattle.flux_syntax.proofs.Leads.{here, passes, same_tree, into, into_at, took, given, given_by, marked, begun, turned, gives, gives_as, gives_all, makes, ends, part_stops, piece_stops, reading_stops}
 use Rattle.flux_syntax.proofs.QueryChoices.{item_deep, var_here, literal_here, no_items, plain_item, uncompared, no_steps, plain_step, child_label, is_other, element_here, some_within}
 use Rattle.flux_syntax.proofs.reader.Reader.slash_step.Goals as goal
 
