@@ -25,86 +25,105 @@ fn is_known(ty: &Ty, count: u32) -> bool
     }
 }
 
-// Types in prefix notation.
-#[derive(Clone, Copy)]
-enum Sign {
-    Nothing,
-    Kind(AtomKind),
-    Named(u32),
-    Element(Name),
-    AnyLabel,
-    Star,
-    Seq,
-    Alt,
+// ---- what cases are spelled by
+
+// The labels `a`, `x`, `b`, `c` and `other`, by which names the cases spell.
+fn make_labels(rt: &impl Abort, alloc: Global, names: &mut Names) -> Result<Vec<Name>, Fail> {
+    let mut labels = Vec::new(alloc);
+    for text in ["a", "x", "b", "c", "other"] {
+        assert!(rt; is_name(text) && names.len() < 100);
+        labels.push(names.intern(text)?)?;
+    }
+    Ok(labels)
 }
 
-use Sign::{Alt, AnyLabel, Element, Kind, Named, Nothing, Seq, Star};
+fn label_of(labels: &[Name], letter: u8) -> Option<Name> {
+    let index: usize = match letter {
+        b'a' => 0,
+        b'x' => 1,
+        b'b' => 2,
+        b'c' => 3,
+        b'o' => 4,
+        _ => return None,
+    };
+    labels.get(index).copied()
+}
 
-fn one(alloc: Global, sign: Sign, parts: &mut Vec<Ty>) -> Result<Ty, AllocError> {
-    let first = parts.pop().unwrap_or(Ty::Empty);
+fn next(alloc: Global, parts: &mut Vec<Ty>) -> Result<Boxed<Ty>, AllocError> {
+    Boxed::new(alloc, parts.pop().unwrap_or(Ty::Empty))
+}
+
+// The type that a sign stands for, where its parts are spelled behind it: an element by the letter
+// of its label, one of any label by `?`, the empty forest by `.`, and the names by capitals.
+fn part(alloc: Global, labels: &[Name], sign: u8, parts: &mut Vec<Ty>) -> Result<Ty, AllocError> {
     match sign {
-        Element(name) => Ok(Ty::Elem(name, Boxed::new(alloc, first)?)),
-        AnyLabel => Ok(Ty::AnyElem(Boxed::new(alloc, first)?)),
-        Star => Ok(Ty::Star(Boxed::new(alloc, first)?)),
-        _ => Ok(first),
+        b's' => Ok(Ty::Atom(AtomKind::Text)),
+        b't' => Ok(Ty::Atom(AtomKind::Bool)),
+        b'i' => Ok(Ty::Atom(AtomKind::Int)),
+        b'A' => Ok(Ty::Named(0)),
+        b'X' => Ok(Ty::Named(1)),
+        b'B' => Ok(Ty::Named(2)),
+        b'?' => Ok(Ty::AnyElem(next(alloc, parts)?)),
+        b'*' => Ok(Ty::Star(next(alloc, parts)?)),
+        b',' => Ok(Ty::Seq(next(alloc, parts)?, next(alloc, parts)?)),
+        b'|' => Ok(Ty::Alt(next(alloc, parts)?, next(alloc, parts)?)),
+        _ => match label_of(labels, sign) {
+            Some(label) => Ok(Ty::Elem(label, next(alloc, parts)?)),
+            None => Ok(Ty::Empty),
+        },
     }
 }
 
-fn two(alloc: Global, sign: Sign, parts: &mut Vec<Ty>) -> Result<Ty, AllocError> {
-    let left = Boxed::new(alloc, parts.pop().unwrap_or(Ty::Empty))?;
-    let right = Boxed::new(alloc, parts.pop().unwrap_or(Ty::Empty))?;
-    match sign {
-        Seq => Ok(Ty::Seq(left, right)),
-        _ => Ok(Ty::Alt(left, right)),
-    }
-}
-
-fn ty(alloc: Global, signs: &[Sign]) -> Result<Ty, AllocError> {
+// A type in prefix notation.
+fn read_type(alloc: Global, labels: &[Name], spelled: &str) -> Result<Ty, AllocError> {
     let mut parts = Vec::new(alloc);
-    for sign in signs.iter().rev() {
-        let made = match *sign {
-            Nothing => Ty::Empty,
-            Kind(kind) => Ty::Atom(kind),
-            Named(index) => Ty::Named(index),
-            Element(_) | AnyLabel | Star => one(alloc, *sign, &mut parts)?,
-            Seq | Alt => two(alloc, *sign, &mut parts)?,
-        };
+    for sign in spelled.as_bytes().iter().rev() {
+        let made = part(alloc, labels, *sign, &mut parts)?;
         parts.push(made)?;
     }
     Ok(parts.pop().unwrap_or(Ty::Empty))
 }
 
-// What a forest is built of.
-#[derive(Clone, Copy)]
-enum Step<'a> {
-    Begin(Name),
-    End,
-    Truth(bool),
-    Text(&'a str),
-}
-
-use Step::{Begin, End, Text, Truth};
-
-fn built(rt: &impl Abort, alloc: Global, steps: &[Step<'_>]) -> Result<Forest, Fail> {
-    let mut forest = Forest::new(alloc);
-    for step in steps {
-        match step {
-            Begin(name) => forest.begin_element(*name)?,
-            End => {
+// An element begins with the letter of its label and ends with `]`; `t` and `f` are truth values,
+// `1` is a number and `s` the text 1.
+fn add_piece(
+    rt: &impl Abort,
+    alloc: Global,
+    labels: &[Name],
+    forest: &mut Forest,
+    piece: u8,
+) -> Result<(), Fail> {
+    match piece {
+        b't' => forest.push_atom(Atom::Bool(true))?,
+        b'f' => forest.push_atom(Atom::Bool(false))?,
+        b'1' => forest.push_atom(Atom::Int(1))?,
+        b'2' => forest.push_atom(Atom::Int(2))?,
+        b's' => forest.push_atom(Atom::Text(Word::of(alloc, "1")?))?,
+        _ => match label_of(labels, piece) {
+            Some(label) => forest.begin_element(label)?,
+            None => {
                 assert!(rt; !forest.is_whole());
                 forest.end_element();
             }
-            Truth(truth) => forest.push_atom(Atom::Bool(*truth))?,
-            Text(text) => forest.push_atom(Atom::Text(Word::of(alloc, text)?))?,
-        }
+        },
+    }
+    Ok(())
+}
+
+fn read_forest(
+    rt: &impl Abort,
+    alloc: Global,
+    labels: &[Name],
+    pieces: &str,
+) -> Result<Forest, Fail> {
+    let mut forest = Forest::new(alloc);
+    for piece in pieces.as_bytes() {
+        add_piece(rt, alloc, labels, &mut forest, *piece)?;
     }
     Ok(forest)
 }
 
-fn label(rt: &impl Abort, names: &mut Names, text: &str) -> Result<Name, Fail> {
-    assert!(rt; is_name(text) && names.len() < 100);
-    Ok(names.intern(text)?)
-}
+// ---- definitions
 
 #[tactic(auto, using(flux_types::proofs::KeptLaws::counts))]
 fn set(
@@ -122,51 +141,52 @@ fn set(
     draft.define(index, body)
 }
 
+// So many names, which have no bodies.
 #[tactic(auto, using(flux_types::proofs::KeptLaws::counts))]
-fn three_names(alloc: Global, first: Name, second: Name, third: Name) -> Result<Draft, Fail>
-    ensures { IfOk result (λ draft. length draft ≡ 3) }
+fn declare_many(
+    rt: &impl Abort,
+    alloc: Global,
+    names: &mut Names,
+    count: u32,
+) -> Result<Draft, Fail>
+    ensures { IfOk result (λ draft. length draft ≡ count) }
 {
     let mut draft = Draft::new(alloc);
-    draft.declare(first)?;
-    draft.declare(second)?;
-    draft.declare(third)?;
+    for index in 0..count {
+        let text = format!(in alloc; "x{index}")?;
+        assert!(rt; is_name(&text) && names.len() < 1_000_000);
+        let name = names.intern(&text)?;
+        draft.declare(name)?;
+    }
     Ok(draft)
 }
 
-// Labels, of which no type of the definitions A = a[A*], X = x[X] and B = any[B] names `c`, and no
-// other type `other`.
+// Labels, and the definitions A = a[A*], X = x[X] and B = any[B].
 #[derive(Drop)]
 struct Scene {
-    a: Name,
-    x: Name,
-    b: Name,
-    c: Name,
+    labels: Vec<Name>,
     other: Name,
     defs: Defs,
 }
 
 fn make_scene(rt: &impl Abort, alloc: Global) -> Result<Scene, Fail> {
     let mut names = Names::new(alloc);
-    let a = label(rt, &mut names, "a")?;
-    let x = label(rt, &mut names, "x")?;
-    let b = label(rt, &mut names, "b")?;
-    let c = label(rt, &mut names, "c")?;
-    let other = label(rt, &mut names, "other")?;
-    let mut draft = three_names(alloc, a, x, b)?;
-    let body = ty(alloc, &[Element(a), Star, Named(0)])?;
-    set(rt, &mut draft, 3, 0, body)?;
-    set(rt, &mut draft, 3, 1, ty(alloc, &[Element(x), Named(1)])?)?;
-    set(rt, &mut draft, 3, 2, ty(alloc, &[AnyLabel, Named(2)])?)?;
+    let labels = make_labels(rt, alloc, &mut names)?;
+    let other = label_of(&labels, b'o').ok_or("a label")?;
+    let mut draft = declare_many(rt, alloc, &mut names, 3)?;
+    for (index, spelled) in [(0, "a*A"), (1, "xX"), (2, "?B")] {
+        let body = read_type(alloc, &labels, spelled)?;
+        set(rt, &mut draft, 3, index, body)?;
+    }
     let defs = draft.close()?;
     Ok(Scene {
-        a,
-        x,
-        b,
-        c,
+        labels,
         other,
         defs,
     })
 }
+
+// ---- members
 
 // Whether a forest is a member of a type, by an automaton of its own.
 fn is_member(
@@ -187,272 +207,39 @@ fn is_member(
 fn assert_member(
     rt: &impl Abort,
     alloc: Global,
-    defs: &Defs,
-    other: Name,
-    signs: &[Sign],
-    steps: &[Step<'_>],
-    want: bool,
-) -> Result<(), Fail> {
-    let ty = ty(alloc, signs)?;
-    let forest = built(rt, alloc, steps)?;
-    assert_eq!(rt; is_member(rt, alloc, defs, other, &ty, &forest)?, want);
-    Ok(())
-}
-
-// Asserts whether a type has a member, which is then one.
-fn assert_some(
-    rt: &impl Abort,
-    alloc: Global,
-    defs: &Defs,
-    other: Name,
-    signs: &[Sign],
-    want: bool,
-) -> Result<(), Fail> {
-    let ty = ty(alloc, signs)?;
-    assert!(rt; is_known(&ty, defs.len()));
-    let mut auto = Auto::new(alloc, defs, other)?;
-    let start = auto.add(&ty)?;
-    match auto.some(start)? {
-        None => assert!(rt; !want),
-        Some(forest) => {
-            assert!(rt; want && forest.is_whole());
-            assert!(rt; auto.member(start, forest.view())?);
-        }
-    }
-    Ok(())
-}
-
-const TEXT: Sign = Kind(AtomKind::Text);
-
-const TRUTH: Sign = Kind(AtomKind::Bool);
-
-const WHOLE: Sign = Kind(AtomKind::Int);
-
-#[test]
-fn order_counts(rt: HostRuntime) -> Result<(), Fail> {
-    let alloc = rt.alloc();
-    let mut names = Names::new(alloc);
-    let lib = label(&rt, &mut names, "lib")?;
-    let book = label(&rt, &mut names, "book")?;
-    let cd = label(&rt, &mut names, "cd")?;
-    let other = label(&rt, &mut names, "other")?;
-    let defs = Draft::new(alloc).close()?;
-    // lib[book[string]*,cd[string]]
-    let ty = [
-        Element(lib),
-        Seq,
-        Star,
-        Element(book),
-        TEXT,
-        Element(cd),
-        TEXT,
-    ];
-    let good = [
-        Begin(lib),
-        Begin(book),
-        Text("A"),
-        End,
-        Begin(cd),
-        Text("B"),
-        End,
-        End,
-    ];
-    assert_member(&rt, alloc, &defs, other, &ty, &good, true)?;
-    let bad = [
-        Begin(lib),
-        Begin(cd),
-        Text("B"),
-        End,
-        Begin(book),
-        Text("A"),
-        End,
-        End,
-    ];
-    assert_member(&rt, alloc, &defs, other, &ty, &bad, false)
-}
-
-#[test]
-fn atoms_beside_elements(rt: HostRuntime) -> Result<(), Fail> {
-    let alloc = rt.alloc();
-    let at = make_scene(&rt, alloc)?;
-    // (string|a[]),bool
-    let ty = [Seq, Alt, TEXT, Element(at.a), Nothing, TRUTH];
-    assert_member(
-        &rt,
-        alloc,
-        &at.defs,
-        at.other,
-        &ty,
-        &[Begin(at.a), End, Truth(true)],
-        true,
-    )?;
-    assert_member(
-        &rt,
-        alloc,
-        &at.defs,
-        at.other,
-        &ty,
-        &[Text("a"), Truth(false)],
-        true,
-    )?;
-    assert_member(
-        &rt,
-        alloc,
-        &at.defs,
-        at.other,
-        &ty,
-        &[Truth(true), Truth(false)],
-        false,
-    )
-}
-
-#[test]
-fn types_with_members(rt: HostRuntime) -> Result<(), Fail> {
-    let alloc = rt.alloc();
-    let at = make_scene(&rt, alloc)?;
-    // a[]*, A and (string|a[]),bool
-    assert_some(
-        &rt,
-        alloc,
-        &at.defs,
-        at.other,
-        &[Star, Element(at.a), Nothing],
-        true,
-    )?;
-    assert_some(&rt, alloc, &at.defs, at.other, &[Named(0)], true)?;
-    let ty = [Seq, Alt, TEXT, Element(at.a), Nothing, TRUTH];
-    assert_some(&rt, alloc, &at.defs, at.other, &ty, true)
-}
-
-#[test]
-fn types_without_members(rt: HostRuntime) -> Result<(), Fail> {
-    let alloc = rt.alloc();
-    let at = make_scene(&rt, alloc)?;
-    // X and a[x[X]]
-    assert_some(&rt, alloc, &at.defs, at.other, &[Named(1)], false)?;
-    let none = [Element(at.a), Element(at.x), Named(1)];
-    assert_some(&rt, alloc, &at.defs, at.other, &none, false)?;
-    // x[]|a[x[X]]
-    let ty = [
-        Alt,
-        Element(at.x),
-        Nothing,
-        Element(at.a),
-        Element(at.x),
-        Named(1),
-    ];
-    assert_some(&rt, alloc, &at.defs, at.other, &ty, true)?;
-    assert_member(
-        &rt,
-        alloc,
-        &at.defs,
-        at.other,
-        &ty,
-        &[Begin(at.x), End],
-        true,
-    )
-}
-
-#[test]
-fn stars_of_stars(rt: HostRuntime) -> Result<(), Fail> {
-    let alloc = rt.alloc();
-    let at = make_scene(&rt, alloc)?;
-    // ((a[]*)*)*
-    let ty = [Star, Star, Star, Element(at.a), Nothing];
-    assert_member(&rt, alloc, &at.defs, at.other, &ty, &[], true)?;
-    let three = [Begin(at.a), End, Begin(at.a), End, Begin(at.a), End];
-    assert_member(&rt, alloc, &at.defs, at.other, &ty, &three, true)?;
-    let other = [Begin(at.a), End, Begin(at.x), End];
-    assert_member(&rt, alloc, &at.defs, at.other, &ty, &other, false)
-}
-
-#[test]
-fn stars_of_nothing(rt: HostRuntime) -> Result<(), Fail> {
-    let alloc = rt.alloc();
-    let at = make_scene(&rt, alloc)?;
-    // ()*
-    assert_member(&rt, alloc, &at.defs, at.other, &[Star, Nothing], &[], true)?;
-    assert_member(
-        &rt,
-        alloc,
-        &at.defs,
-        at.other,
-        &[Star, Nothing],
-        &[Begin(at.a), End],
-        false,
-    )
-}
-
-// A type in prefix notation: `?` is an element of any label.
-fn sign_of(at: &Scene, byte: u8) -> Option<Sign> {
-    match byte {
-        b'.' => Some(Nothing),
-        b'a' => Some(Element(at.a)),
-        b'b' => Some(Element(at.b)),
-        b'?' => Some(AnyLabel),
-        b's' => Some(TEXT),
-        b'i' => Some(WHOLE),
-        b'|' => Some(Alt),
-        _ => None,
-    }
-}
-
-// A piece of a forest: `o` begins an element with the label `other`, and `s` is the text 1.
-fn add_piece(
-    rt: &impl Abort,
-    alloc: Global,
-    at: &Scene,
-    forest: &mut Forest,
-    byte: u8,
-) -> Result<(), Fail> {
-    match byte {
-        b'a' => forest.begin_element(at.a)?,
-        b'b' => forest.begin_element(at.b)?,
-        b'c' => forest.begin_element(at.c)?,
-        b'o' => forest.begin_element(at.other)?,
-        b'1' => forest.push_atom(Atom::Int(1))?,
-        b'2' => forest.push_atom(Atom::Int(2))?,
-        b's' => forest.push_atom(Atom::Text(Word::of(alloc, "1")?))?,
-        _ => {
-            assert!(rt; !forest.is_whole());
-            forest.end_element();
-        }
-    }
-    Ok(())
-}
-
-fn assert_case(
-    rt: &impl Abort,
-    alloc: Global,
     at: &Scene,
     spelled: &str,
     pieces: &str,
     want: bool,
 ) -> Result<(), Fail> {
-    let mut signs = Vec::new(alloc);
-    for byte in spelled.as_bytes() {
-        if let Some(sign) = sign_of(at, *byte) {
-            signs.push(sign)?;
-        }
-    }
-    let mut forest = Forest::new(alloc);
-    for byte in pieces.as_bytes() {
-        add_piece(rt, alloc, at, &mut forest, *byte)?;
-    }
-    let ty = ty(alloc, &signs)?;
-    assert_eq!(rt;
-        is_member(rt, alloc, &at.defs, at.other, &ty, &forest)?,
-        want
-    );
+    let ty = read_type(alloc, &at.labels, spelled)?;
+    let forest = read_forest(rt, alloc, &at.labels, pieces)?;
+    let found = is_member(rt, alloc, &at.defs, at.other, &ty, &forest)?;
+    assert_eq!(rt; found, want, "{spelled} {pieces}");
     Ok(())
 }
 
 #[test]
-fn any_labels_and_numbers(rt: HostRuntime) -> Result<(), Fail> {
+fn members(rt: HostRuntime) -> Result<(), Fail> {
     let alloc = rt.alloc();
     let at = make_scene(&rt, alloc)?;
-    // any[], a[]|b[], int, string, int|string, any[int] and a[int]|any[string]
-    let cases = [
+    for (ty, forest, want) in [
+        // a[b[string]*,c[string]]: order counts
+        ("a,*bscs", "abs]cs]]", true),
+        ("a,*bscs", "acs]bs]]", false),
+        // (string|a[]),bool
+        (",|sa.t", "a]t", true),
+        (",|sa.t", "sf", true),
+        (",|sa.t", "tf", false),
+        // x[]|a[x[X]], where X has no member
+        ("|x.axX", "x]", true),
+        // ((a[]*)*)* and ()*
+        ("***a.", "", true),
+        ("***a.", "a]a]a]", true),
+        ("***a.", "a]x]", false),
+        ("*.", "", true),
+        ("*.", "a]", false),
+        // any[], a[]|b[], int, string and int|string
         ("?.", "c]", true),
         ("?.", "a]", true),
         ("?.", "o]", true),
@@ -463,6 +250,7 @@ fn any_labels_and_numbers(rt: HostRuntime) -> Result<(), Fail> {
         ("i", "1", true),
         ("s", "1", false),
         ("|is", "1", true),
+        // any[int] and a[int]|any[string]
         ("?i", "a1]", true),
         ("?i", "as]", false),
         ("?i", "a12]", false),
@@ -470,38 +258,73 @@ fn any_labels_and_numbers(rt: HostRuntime) -> Result<(), Fail> {
         ("|ai?s", "as]", true),
         ("|ai?s", "b1]", false),
         ("|ai?s", "bs]", true),
-    ];
-    for (ty, forest, want) in cases {
-        assert_case(&rt, alloc, &at, ty, forest, want)?;
+        // A*, with equal trees and others
+        ("*A", "aa]a]]aa]a]]a]", true),
+        ("*A", "aa]a]]aa]b]]a]", false),
+        // a[b[]],b[a[]]: equal contents behind each other
+        (",ab.ba.", "ab]]ba]]", true),
+        (",ab.ba.", "ba]]ab]]", false),
+        (",ab.ba.", "ab]]ab]]", false),
+    ] {
+        assert_member(&rt, alloc, &at, ty, forest, want)?;
     }
+    Ok(())
+}
+
+// Asserts that a member of the type is shown that the second type has too, or none where the second
+// is not spelled.
+fn assert_shown(
+    rt: &impl Abort,
+    alloc: Global,
+    at: &Scene,
+    spelled: &str,
+    shown: &str,
+) -> Result<(), Fail> {
+    let ty = read_type(alloc, &at.labels, spelled)?;
+    assert!(rt; is_known(&ty, at.defs.len()));
+    let mut auto = Auto::new(alloc, &at.defs, at.other)?;
+    let start = auto.add(&ty)?;
+    let Some(forest) = auto.some(start)? else {
+        assert!(rt; shown.is_empty(), "{spelled}");
+        return Ok(());
+    };
+    assert!(rt; !shown.is_empty(), "{spelled}");
+    let narrow = read_type(alloc, &at.labels, shown)?;
+    assert!(rt;
+        is_member(rt, alloc, &at.defs, at.other, &ty, &forest)?,
+        "{spelled}"
+    );
+    assert!(rt;
+        is_member(rt, alloc, &at.defs, at.other, &narrow, &forest)?,
+        "{spelled}"
+    );
     Ok(())
 }
 
 #[test]
-fn members_of_any_label(rt: HostRuntime) -> Result<(), Fail> {
+fn shown_members(rt: HostRuntime) -> Result<(), Fail> {
     let alloc = rt.alloc();
     let at = make_scene(&rt, alloc)?;
-    // any[int], int, and B, which has none
-    assert_some(&rt, alloc, &at.defs, at.other, &[AnyLabel, WHOLE], true)?;
-    assert_some(&rt, alloc, &at.defs, at.other, &[WHOLE], true)?;
-    assert_some(&rt, alloc, &at.defs, at.other, &[Named(2)], false)?;
-    // what is shown of any[int] is other[0]
-    let wide = ty(alloc, &[AnyLabel, WHOLE])?;
-    assert!(rt; is_known(&wide, at.defs.len()));
-    let mut auto = Auto::new(alloc, &at.defs, at.other)?;
-    let start = auto.add(&wide)?;
-    let shown = ty(alloc, &[Element(at.other), WHOLE])?;
-    match auto.some(start)? {
-        None => assert!(rt; false),
-        Some(forest) => {
-            assert!(rt; is_member(&rt, alloc, &at.defs, at.other, &shown, &forest)?);
-        }
+    for (ty, shown) in [
+        // a[]*, A, (string|a[]),bool and int
+        ("*a.", "*a."),
+        ("A", "A"),
+        (",|sa.t", ",|sa.t"),
+        ("i", "i"),
+        // X, a[x[X]], x[]|a[x[X]] and B
+        ("X", ""),
+        ("axX", ""),
+        ("|x.axX", "x."),
+        ("B", ""),
+        // of any[int] it is other[int]
+        ("?i", "oi"),
+    ] {
+        assert_shown(&rt, alloc, &at, ty, shown)?;
     }
     Ok(())
 }
 
-fn nested(rt: &impl Abort, alloc: Global, name: Name, levels: u32) -> Result<Forest, Fail> {
-    let mut forest = Forest::new(alloc);
+fn add_nested(rt: &impl Abort, forest: &mut Forest, name: Name, levels: u32) -> Result<(), Fail> {
     for _ in 0..levels {
         forest.begin_element(name)?;
     }
@@ -509,15 +332,20 @@ fn nested(rt: &impl Abort, alloc: Global, name: Name, levels: u32) -> Result<For
         assert!(rt; !forest.is_whole());
         forest.end_element();
     }
-    Ok(forest)
+    Ok(())
 }
 
-fn row(rt: &impl Abort, alloc: Global, name: Name, trees: u32) -> Result<Forest, Fail> {
+// So many trees, each of so many elements in one another.
+fn grown(
+    rt: &impl Abort,
+    alloc: Global,
+    name: Name,
+    levels: u32,
+    trees: u32,
+) -> Result<Forest, Fail> {
     let mut forest = Forest::new(alloc);
     for _ in 0..trees {
-        forest.begin_element(name)?;
-        assert!(rt; !forest.is_whole());
-        forest.end_element();
+        add_nested(rt, &mut forest, name, levels)?;
     }
     Ok(forest)
 }
@@ -526,13 +354,14 @@ fn row(rt: &impl Abort, alloc: Global, name: Name, trees: u32) -> Result<Forest,
 fn great_forests(rt: HostRuntime) -> Result<(), Fail> {
     let alloc = rt.alloc();
     let at = make_scene(&rt, alloc)?;
-    let ty = ty(alloc, &[Star, Named(0)])?;
-    let deep = nested(&rt, alloc, at.a, 1_000_000)?;
-    assert!(rt; is_member(&rt, alloc, &at.defs, at.other, &ty, &deep)?);
-    let mut wide = row(&rt, alloc, at.a, 100_000)?;
-    assert!(rt; is_member(&rt, alloc, &at.defs, at.other, &ty, &wide)?);
-    wide.push_atom(Atom::Bool(true))?;
-    assert!(rt; !is_member(&rt, alloc, &at.defs, at.other, &ty, &wide)?);
+    let a = label_of(&at.labels, b'a').ok_or("a label")?;
+    let ty = read_type(alloc, &at.labels, "*A")?;
+    for (levels, trees) in [(1_000_000, 1), (1, 100_000), (3, 100_000)] {
+        let mut forest = grown(&rt, alloc, a, levels, trees)?;
+        assert!(rt; is_member(&rt, alloc, &at.defs, at.other, &ty, &forest)?);
+        forest.push_atom(Atom::Bool(true))?;
+        assert!(rt; !is_member(&rt, alloc, &at.defs, at.other, &ty, &forest)?);
+    }
     Ok(())
 }
 
@@ -541,8 +370,8 @@ fn starts_stay(rt: HostRuntime) -> Result<(), Fail> {
     let alloc = rt.alloc();
     let at = make_scene(&rt, alloc)?;
     // a[], and later x[string]
-    let first = ty(alloc, &[Element(at.a), Nothing])?;
-    let second = ty(alloc, &[Element(at.x), TEXT])?;
+    let first = read_type(alloc, &at.labels, "a.")?;
+    let second = read_type(alloc, &at.labels, "xs")?;
     assert!(rt; is_known(&first, at.defs.len()) && is_known(&second, at.defs.len()));
     let mut auto = Auto::new(alloc, &at.defs, at.other)?;
     let start = auto.add(&first)?;
@@ -554,108 +383,98 @@ fn starts_stay(rt: HostRuntime) -> Result<(), Fail> {
     Ok(())
 }
 
+// ---- chains of names
+
 // More names than calls that nest have room for: as many as a script has room for, and fewer where
-// each has a part beside it.
+// each has a content of its own.
 const CHAIN: u32 = 60_000;
 
-const CHOICES: u32 = 20_000;
+const NESTED: u32 = 10_000;
 
-#[tactic(auto, using(flux_types::proofs::KeptLaws::counts))]
-fn declare_many(
-    rt: &impl Abort,
-    alloc: Global,
-    names: &mut Names,
-    count: u32,
-) -> Result<Draft, Fail>
-    ensures { IfOk result (λ draft. length draft ≡ count) }
-{
-    let mut draft = Draft::new(alloc);
-    for index in 0..count {
-        let text = format!(in alloc; "x{index}")?;
-        assert!(rt; is_name(&text) && names.len() < 1_000_000);
-        let name = names.intern(&text)?;
-        draft.declare(name)?;
-    }
-    Ok(draft)
+// How a definition names the next one: plainly, beside an element, or inside one.
+#[derive(Clone, Copy)]
+enum Link {
+    Plain,
+    Beside(Name),
+    Inside(Name),
 }
 
-// A name, or its choice with an empty element.
-fn link(alloc: Global, index: u32, beside: Option<Name>) -> Result<Ty, AllocError> {
-    match beside {
-        None => Ok(Ty::Named(index)),
-        Some(label) => ty(alloc, &[Alt, Named(index), Element(label), Nothing]),
+fn link_to(alloc: Global, link: &Link, index: u32) -> Result<Ty, AllocError> {
+    let next = Ty::Named(index);
+    match link {
+        Link::Plain => Ok(next),
+        Link::Inside(label) => Ok(Ty::Elem(*label, Boxed::new(alloc, next)?)),
+        Link::Beside(label) => {
+            let beside = Ty::Elem(*label, Boxed::new(alloc, Ty::Empty)?);
+            Ok(Ty::Alt(Boxed::new(alloc, next)?, Boxed::new(alloc, beside)?))
+        }
     }
 }
 
-// The definitions 0 = 1, 1 = 2 and so on, or 0 = 1|b[], 1 = 2|b[] and so on, to a last one, a[].
-fn chain(
-    rt: &impl Abort,
-    alloc: Global,
-    names: &mut Names,
-    count: u32,
-    last: Name,
-    beside: Option<Name>,
-) -> Result<Defs, Fail>
+// So many definitions, each with a link to the next, and the last with a body of its own.
+fn chain(rt: &impl Abort, alloc: Global, count: u32, link: &Link, last: Ty) -> Result<Defs, Fail>
     requires { 0 < count }
 {
-    let mut draft = declare_many(rt, alloc, names, count)?;
+    let mut names = Names::new(alloc);
+    let mut draft = declare_many(rt, alloc, &mut names, count)?;
     for index in 1..count {
         set(
             rt,
             &mut draft,
             count,
             index - 1,
-            link(alloc, index, beside)?,
+            link_to(alloc, link, index)?,
         )?;
     }
-    let body = ty(alloc, &[Element(last), Nothing])?;
-    set(rt, &mut draft, count, count - 1, body)?;
+    set(rt, &mut draft, count, count - 1, last)?;
     Ok(draft.close()?)
+}
+
+fn assert_chain(
+    rt: &impl Abort,
+    alloc: Global,
+    at: &Scene,
+    link: &Link,
+    last: &str,
+    cases: &[(&str, bool)],
+) -> Result<(), Fail> {
+    let last = read_type(alloc, &at.labels, last)?;
+    let defs = chain(rt, alloc, CHAIN, link, last)?;
+    for (pieces, want) in cases {
+        let forest = read_forest(rt, alloc, &at.labels, pieces)?;
+        let found = is_member(rt, alloc, &defs, at.other, &Ty::Named(0), &forest)?;
+        assert_eq!(rt; found, *want, "{pieces}");
+    }
+    Ok(())
 }
 
 #[test]
 fn chains_of_names(rt: HostRuntime) -> Result<(), Fail> {
     let alloc = rt.alloc();
-    let mut names = Names::new(alloc);
-    let a = label(&rt, &mut names, "a")?;
-    let b = label(&rt, &mut names, "b")?;
-    let other = label(&rt, &mut names, "other")?;
-    let plain = chain(&rt, alloc, &mut names, CHAIN, a, None)?;
-    assert_member(
-        &rt,
-        alloc,
-        &plain,
-        other,
-        &[Named(0)],
-        &[Begin(a), End],
-        true,
-    )?;
-    assert_member(
-        &rt,
-        alloc,
-        &plain,
-        other,
-        &[Named(0)],
-        &[Begin(b), End],
-        false,
-    )?;
-    let choices = chain(&rt, alloc, &mut names, CHOICES, a, Some(b))?;
-    assert_member(
-        &rt,
-        alloc,
-        &choices,
-        other,
-        &[Named(0)],
-        &[Begin(a), End],
-        true,
-    )?;
-    assert_member(
-        &rt,
-        alloc,
-        &choices,
-        other,
-        &[Named(0)],
-        &[Begin(b), End],
-        true,
-    )
+    let at = make_scene(&rt, alloc)?;
+    let b = label_of(&at.labels, b'b').ok_or("a label")?;
+    let plain = [("a]", true), ("b]", false)];
+    assert_chain(&rt, alloc, &at, &Link::Plain, "a.", &plain)?;
+    let beside = [("a]", true), ("b]", true), ("c]", false)];
+    assert_chain(&rt, alloc, &at, &Link::Beside(b), "a.", &beside)?;
+    let empty = [("", true), ("a]", false)];
+    assert_chain(&rt, alloc, &at, &Link::Plain, ".", &empty)
+}
+
+// A member of the last definition is found first, and then one of each before it.
+#[test]
+fn deep_members(rt: HostRuntime) -> Result<(), Fail> {
+    let alloc = rt.alloc();
+    let at = make_scene(&rt, alloc)?;
+    let a = label_of(&at.labels, b'a').ok_or("a label")?;
+    let last = read_type(alloc, &at.labels, "b.")?;
+    let defs = chain(&rt, alloc, NESTED, &Link::Inside(a), last)?;
+    let first = Ty::Named(0);
+    assert!(rt; is_known(&first, defs.len()));
+    let mut auto = Auto::new(alloc, &defs, at.other)?;
+    let start = auto.add(&first)?;
+    let forest = auto.some(start)?.ok_or("a member")?;
+    assert!(rt; forest.is_whole());
+    assert!(rt; auto.member(start, forest.view())?);
+    Ok(())
 }
