@@ -1,0 +1,32 @@
+-- The lines that tell why a script is refused.
+use Rattle.std.specs.Prelude.{◌≤◌, ℕ, List, [], ◌∷◌, ◌++◌, length, codes}
+use Rattle.std.specs.Fmt.{decimal}
+use Rattle.flux_lex.specs.declared.read.LexFault.TheVariants.{Bad, Memory as NoRoom}
+use Rattle.flux_syntax.specs.declared.trees.SynFault.TheVariants.{Syntax, Memory}
+use Rattle.flux_report.specs.declared.line.ScriptFault.{ScriptFault}
+use Rattle.flux_report.specs.declared.line.ScriptFault.TheVariants.{TooLong, Lex, Syn}
+use Rattle.flux_report.specs.Positions.{line_of_place, column_of_place}
+
+-- the script, a line and a column, a text
+abbrev pub placed_line : List ℕ → ℕ → List ℕ → List ℕ
+placed_line bytes place text =
+    codes "script:" ++ (decimal (line_of_place bytes place)
+    ++ (codes ":" ++ (decimal (column_of_place bytes place)
+    ++ (codes ": " ++ (text ++ 10 ∷ [])))))
+
+-- the line of a fault in the script of these bytes, with the newline that ends it; want of memory
+-- has none
+abbrev pub script_text : List ℕ → ScriptFault → List ℕ
+script_text bytes TooLong = codes "script: longer than 1048576 bytes" ++ 10 ∷ []
+script_text bytes (Lex (Bad place)) = placed_line bytes place (codes "Bad")
+script_text bytes (Lex (NoRoom error)) = []
+script_text bytes (Syn (Syntax place)) = placed_line bytes place (codes "Syntax")
+script_text bytes (Syn (Memory error)) = []
+
+-- it isn't want of memory, and its place, where it has one, lies in the script of these bytes
+abbrev pub IsShown : List ℕ → ScriptFault → Type 0
+IsShown bytes TooLong = Unit {0}
+IsShown bytes (Lex (Bad place)) = place ≤ length bytes
+IsShown bytes (Lex (NoRoom error)) = ⊥
+IsShown bytes (Syn (Syntax place)) = place ≤ length bytes
+IsShown bytes (Syn (Memory error)) = ⊥
