@@ -244,6 +244,17 @@ fn queries(rt: HostRuntime) -> Result<(), Fail> {
             "a[]::b/c",
             "Down(Filter(Elem(n0, None, 0-3), Label(n1), 0-6), Label(n2), 0-8)",
         ),
+    ] {
+        let told = told(&rt, alloc, Kind::Query, text)?;
+        assert_eq!(rt; told.as_str(), wanted, "{text}");
+    }
+    Ok(())
+}
+
+#[test]
+fn queries_with_faults(rt: HostRuntime) -> Result<(), Fail> {
+    let alloc = rt.alloc();
+    for (text, wanted) in [
         ("", "place 0"),
         ("1=2=3", "place 3"),
         ("1<2=3", "place 3"),
