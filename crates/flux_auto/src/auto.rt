@@ -122,11 +122,11 @@ impl Auto {
     /// go by, which takes the time of going over them and the names up to the last label once. The
     /// profile of a forest, a truth value for each state, tells which states take it. Each profile
     /// is kept once and has a number. A tree in front of a forest takes the time of looking up what
-    /// its label, or kind of atom, and the numbers of the two profiles give. That is found when they
-    /// meet for the first time: by filling a profile, and going over the edges of the label and of
-    /// any label alone, or of the kind. The memory is that of the edges, of the profiles that
-    /// differ and of what was found, and for each element that is open a number and the places of
-    /// the trees before it that are still to come. It doesn't recurse.
+    /// its label, or kind of atom, and the numbers of the two profiles give. That is found when
+    /// they meet for the first time: by filling a profile, and going over the edges of the label
+    /// and of any label alone, or of the kind. The memory is that of the edges, of the profiles
+    /// that differ and of what was found, and for each element that is open a number and the places
+    /// of the trees before it that are still to come. It doesn't recurse.
     pub fn member(&self, start: Start, view: View<'_>) -> Result<bool, AllocError>
         requires { start < length self.now.types }
         ensures { IfOk result (λ found. IfSome (slice_get self.now.types start)
