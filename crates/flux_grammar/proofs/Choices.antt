@@ -9,8 +9,11 @@ use Rattle.flux_grammar.specs.declared.lexeme.Sign.TheVariants as sign
 use Rattle.flux_grammar.specs.declared.lexeme.Soft.TheVariants as soft
 use Rattle.flux_grammar.specs.declared.tree.Expr.{Expr}
 use Rattle.flux_grammar.specs.declared.tree.Expr.TheVariants as ex
+use Rattle.flux_grammar.specs.declared.tree.Mark.{Mark}
 use Rattle.flux_grammar.specs.declared.tree.ParamDef.{ParamDef}
 use Rattle.flux_grammar.specs.declared.tree.ProcDef.{ProcDef}
+use Rattle.flux_grammar.specs.declared.tree.QueryStep.{QueryStep}
+use Rattle.flux_grammar.specs.declared.tree.QueryStep.TheVariants as go
 use Rattle.flux_grammar.specs.declared.tree.Step.{Step}
 use Rattle.flux_grammar.specs.declared.tree.Stmt.{Stmt}
 use Rattle.flux_grammar.specs.declared.tree.Stmt.TheVariants as st
@@ -18,7 +21,6 @@ use Rattle.flux_grammar.specs.declared.tree.TestText.{TestText}
 use Rattle.flux_grammar.specs.declared.tree.TestText.TheVariants as te
 use Rattle.flux_grammar.specs.declared.tree.TypeDef.{TypeDef}
 use Rattle.flux_grammar.specs.declared.tree.TypeText.{TypeText}
-use Rattle.flux_grammar.specs.Spans.{expr_span}
 use Rattle.flux_grammar.specs.Grammar.{spanning, step_of, type, alts, seqs, marks, labelled, content, label, test, other, tested, path, slashes, step, spot, filtered, expr, items, item, compared, post, steps, qstep, childed, prim, within, stmts, nexts, ending, stmt, guard, simple, deleting, replacing, args, typedefs, procdefs, params, params_on, param, output}
 use Rattle.flux_grammar.specs.Machine.{Prog, take, mark, call, body}
 use Rattle.flux_grammar.proofs.Follow.{binds, Closes, Finishes}
@@ -35,13 +37,13 @@ pub choose_no_seqs : (d : ℕ) (h : Option Lexeme) (k : List TypeText → Prog) 
 choose_no_seqs d (Some (Sign sign.Comma)) k c = absurd (omega arith)
 choose_no_seqs d _ k c = refl
 
-pub choose_no_marks : (t : TypeText) (h : Option Lexeme) (k : TypeText → Prog) →
+pub choose_no_marks : (from : ℕ) (h : Option Lexeme) (k : List Mark → Prog) →
     3 < binds h →
-    body (marks t) h k ≡ Some (k t)
-choose_no_marks t (Some (Sign sign.Star)) k c = absurd (omega arith)
-choose_no_marks t (Some (Sign sign.Plus)) k c = absurd (omega arith)
-choose_no_marks t (Some (Sign sign.Question)) k c = absurd (omega arith)
-choose_no_marks t _ k c = refl
+    body (marks from) h k ≡ Some (k [])
+choose_no_marks from (Some (Sign sign.Star)) k c = absurd (omega arith)
+choose_no_marks from (Some (Sign sign.Plus)) k c = absurd (omega arith)
+choose_no_marks from (Some (Sign sign.Question)) k c = absurd (omega arith)
+choose_no_marks from _ k c = refl
 
 pub choose_alone :
     (d : ℕ) (at : Span) (n : ℕ) (alone : TypeText) (h : Option Lexeme) (k : TypeText → Prog) →
@@ -122,26 +124,24 @@ choose_uncompared d t (Some (Sign sign.Equal)) k c = absurd (omega arith)
 choose_uncompared d t (Some (Sign sign.Less)) k c = absurd (omega arith)
 choose_uncompared d t _ k c = refl
 
-pub choose_no_steps : (t : Expr) (h : Option Lexeme) (k : Expr → Prog) →
+pub choose_no_steps : (from : ℕ) (h : Option Lexeme) (k : List QueryStep → Prog) →
     3 < binds h →
-    body (steps t) h k ≡ Some (k t)
-choose_no_steps t (Some (Sign sign.Slash)) k c = absurd (omega arith)
-choose_no_steps t (Some (Sign sign.DoubleColon)) k c = absurd (omega arith)
-choose_no_steps t _ k c = refl
+    body (steps from) h k ≡ Some (k [])
+choose_no_steps from (Some (Sign sign.Slash)) k c = absurd (omega arith)
+choose_no_steps from (Some (Sign sign.DoubleColon)) k c = absurd (omega arith)
+choose_no_steps from _ k c = refl
 
-pub choose_down : (t : Expr) (h : Option Lexeme) (k : Expr → Prog) →
+pub choose_down : (from : ℕ) (h : Option Lexeme) (k : QueryStep → Prog) →
     binds h < 10 →
-    body (qstep t) h k ≡ Some (call other (λ φ. mark (λ e. k (ex.Down t φ.0 (spanning (expr_span
-    t).from e)))))
-choose_down t (Some (Soft soft.ChildWord n)) k c = absurd (omega arith)
-choose_down t _ k c = refl
+    body (qstep from) h k ≡ Some (call other (λ φ. mark (λ e. k (go.Down φ.0 (spanning from e)))))
+choose_down from (Some (Soft soft.ChildWord n)) k c = absurd (omega arith)
+choose_down from _ k c = refl
 
-pub choose_down_child : (t : Expr) (n : ℕ) (h : Option Lexeme) (k : Expr → Prog) →
+pub choose_down_child : (from : ℕ) (n : ℕ) (h : Option Lexeme) (k : QueryStep → Prog) →
     1 < binds h →
-    body (childed t n) h k ≡ Some (mark (λ e. k (ex.Down t (te.Label n) (spanning (expr_span t).from
-    e))))
-choose_down_child t n (Some (Sign sign.Open)) k c = absurd (omega arith)
-choose_down_child t n _ k c = refl
+    body (childed from n) h k ≡ Some (mark (λ e. k (go.Down (te.Label n) (spanning from e))))
+choose_down_child from n (Some (Sign sign.Open)) k c = absurd (omega arith)
+choose_down_child from n _ k c = refl
 
 pub choose_element : (d : ℕ) (h : Option Lexeme) (k : Expr → Prog) →
     (8 < binds h) × (binds h < 11) →

@@ -32,15 +32,15 @@ complete (reads-seqs {d = d} p1 p2 p3) e k o run =
     runs-call tt (chosen (seqs d) k p1) (runs-take p1 (complete p2 (before p3 e) _ o (complete p3 e
     _ o run)))
 complete (reads-tpost p1 p2) e k o run =
-    runs-call tt refl (complete p1 (before p2 e) _ o (complete p2 e _ o run))
-complete (reads-no-marks {t = t} {a = a}) e k o run =
-    runs-call tt (choose_no_marks t (head a) k e) run
-complete (reads-star {t = t} p1 p2) e k o run =
-    runs-call tt (chosen (marks t) k p1) (runs-take p1 (complete p2 e _ o run))
-complete (reads-plus {t = t} p1 p2) e k o run =
-    runs-call tt (chosen (marks t) k p1) (runs-take p1 (complete p2 e _ o run))
-complete (reads-opt {t = t} p1 p2) e k o run =
-    runs-call tt (chosen (marks t) k p1) (runs-take p1 (complete p2 e _ o run))
+    runs-call tt refl (complete p1 (before p2 e) _ o (complete p2 e _ o (runs-mark run)))
+complete (reads-no-marks {from = from} {a = a}) e k o run =
+    runs-call tt (choose_no_marks from (head a) k e) run
+complete (reads-star {from = from} p1 p2) e k o run =
+    runs-call tt (chosen (marks from) k p1) (runs-take p1 (complete p2 e _ o run))
+complete (reads-plus {from = from} p1 p2) e k o run =
+    runs-call tt (chosen (marks from) k p1) (runs-take p1 (complete p2 e _ o run))
+complete (reads-opt {from = from} p1 p2) e k o run =
+    runs-call tt (chosen (marks from) k p1) (runs-take p1 (complete p2 e _ o run))
 complete (reads-group {d = d} p1 p2 p3) e k o run =
     runs-call tt (chosen (tatom d) k p1) (runs-take p1 (complete p2 (at_head Closes p3 tt) _ o
     (runs-take p3 run)))
@@ -148,23 +148,23 @@ complete (reads-less {d = d} {t = t} p1 p2) e k o run =
     runs-call tt (chosen (compared d t) k p1) (runs-take p1 (complete p2 (omega arith) _ o
     (runs-mark run)))
 complete (reads-post p1 p2) e k o run =
-    runs-call tt refl (complete p1 tt _ o (complete p2 e _ o run))
-complete (reads-no-steps {t = t} {a = a}) e k o run =
-    runs-call tt (choose_no_steps t (head a) k e) run
-complete (reads-slash {t = t} p1 p2 p3) e k o run =
-    runs-call tt (chosen (steps t) k p1) (runs-take p1 (complete p2 (before p3 e) _ o (complete p3 e
-    _ o run)))
-complete (reads-keep {t = t} p1 p2 p3) e k o run =
-    runs-call tt (chosen (steps t) k p1) (runs-take p1 (complete p2 (before p3 e) _ o (runs-mark
+    runs-call tt refl (complete p1 tt _ o (complete p2 e _ o (runs-mark run)))
+complete (reads-no-steps {from = from} {a = a}) e k o run =
+    runs-call tt (choose_no_steps from (head a) k e) run
+complete (reads-slash {from = from} p1 p2 p3) e k o run =
+    runs-call tt (chosen (steps from) k p1) (runs-take p1 (complete p2 (before p3 e) _ o (complete
+    p3 e _ o run)))
+complete (reads-keep {from = from} p1 p2 p3) e k o run =
+    runs-call tt (chosen (steps from) k p1) (runs-take p1 (complete p2 (before p3 e) _ o (runs-mark
     (complete p3 e _ o run))))
-complete (reads-child-step {t = t} p1 p2) e k o run =
-    runs-call tt (chosen (qstep t) k p1) (runs-take p1 (complete p2 e _ o run))
-complete (reads-down {t = t} {a = a} p1) e k o run =
-    runs-call tt (choose_down t (head a) k (begins p1)) (complete p1 e _ o (runs-mark run))
-complete (reads-down-child {t = t} {n = n} {a = a}) e k o run =
-    runs-call tt (choose_down_child t n (head a) k e) (runs-mark run)
-complete (reads-child {t = t} {n = n} p1 p2) e k o run =
-    runs-call tt (chosen (childed t n) k p1) (runs-take p1 (runs-take p2 run))
+complete (reads-child-step {from = from} p1 p2) e k o run =
+    runs-call tt (chosen (qstep from) k p1) (runs-take p1 (complete p2 e _ o run))
+complete (reads-down {from = from} {a = a} p1) e k o run =
+    runs-call tt (choose_down from (head a) k (begins p1)) (complete p1 e _ o (runs-mark run))
+complete (reads-down-child {from = from} {n = n} {a = a}) e k o run =
+    runs-call tt (choose_down_child from n (head a) k e) (runs-mark run)
+complete (reads-child {from = from} {n = n} p1 p2) e k o run =
+    runs-call tt (chosen (childed from n) k p1) (runs-take p1 (runs-take p2 run))
 complete (reads-paren {d = d} p1 p2 p3) e k o run =
     runs-call tt (chosen (prim d) k p1) (runs-take p1 (complete p2 (at_head Closes p3 tt) _ o
     (runs-take p3 run)))

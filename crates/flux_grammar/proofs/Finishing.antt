@@ -10,13 +10,13 @@ use Rattle.flux_grammar.specs.declared.lexeme.Soft.TheVariants as soft
 use Rattle.flux_grammar.specs.declared.tree.Expr.{Expr}
 use Rattle.flux_grammar.specs.declared.tree.Expr.TheVariants as ex
 use Rattle.flux_grammar.specs.declared.tree.Path.{Path}
+use Rattle.flux_grammar.specs.declared.tree.QueryStep.TheVariants as go
 use Rattle.flux_grammar.specs.declared.tree.Step.{Step}
 use Rattle.flux_grammar.specs.declared.tree.Stmt.{Stmt}
 use Rattle.flux_grammar.specs.declared.tree.Stmt.TheVariants as st
 use Rattle.flux_grammar.specs.declared.tree.TestText.TheVariants as te
 use Rattle.flux_grammar.specs.declared.tree.TypeText.{TypeText}
 use Rattle.flux_grammar.specs.declared.tree.TypeText.TheVariants as ty
-use Rattle.flux_grammar.specs.Spans.{expr_span}
 use Rattle.flux_atom.specs.declared.atom.Atom.TheVariants.{Bool as Truth}
 use Rattle.flux_grammar.specs.States.{State, state, end, head, Takes, takes}
 use Rattle.flux_grammar.specs.Grammar.{spanning, Part, type, alts, tseq, seqs, tpost, marks, tatom, labelled, content, label, tname, var, test, other, tested, path, slashes, step, spot, filtered, expr, items, item, compared, post, steps, qstep, childed, prim, within, stmts, nexts, ending, stmt, guard, simple, inserting, placing, deleting, replacing, args, typedefs, typedef, procdefs, procdef, params, params_on, param, output, script, Value, Reads, reads-type, reads-no-alts, reads-tseq, reads-no-seqs, reads-tpost, reads-no-marks, reads-string, reads-alone, reads-content, reads-word, reads-tname, reads-var, reads-test, reads-every, reads-label-test, reads-path, reads-no-slashes, reads-step, reads-dot, reads-no-filter, reads-expr, reads-no-items, reads-item, reads-uncompared, reads-post, reads-no-steps, reads-down, reads-down-child, reads-literal, reads-within, reads-stmts, reads-no-nexts, reads-ended, reads-stmt, reads-unguarded, reads-skip, reads-insert-value, reads-insert-first, reads-delete-path, reads-replace-path, reads-no-args, reads-script, reads-no-typedefs, reads-typedef, reads-no-procdefs, reads-procdef, reads-no-params, reads-no-params-on, reads-param, reads-no-output}
@@ -92,7 +92,7 @@ short (tpost d) e = (
   λ m more h. reads-tpost (reads-string (takes refl) reads-alone)
       reads-no-marks,
 )
-short (marks t) e = ([], e, t, λ m more h. reads-no-marks)
+short (marks from) e = ([], e, [], λ m more h. reads-no-marks)
 short (tatom d) e = (string, 0, a_type, λ m more h. reads-string (takes refl) reads-alone)
 short (labelled d at n alone) e = ([], e, alone, λ m more h. reads-alone)
 short (content d) e = (
@@ -145,16 +145,15 @@ short (item d) e = (
 short (compared d t) e = ([], e, t, λ m more h. reads-uncompared)
 short (post d) e =
     (truth, 0, a_query, λ m more h. reads-post (reads-literal (takes refl)) reads-no-steps)
-short (steps t) e = ([], e, t, λ m more h. reads-no-steps)
-short (qstep t) e = (
+short (steps from) e = ([], e, [], λ m more h. reads-no-steps)
+short (qstep from) e = (
   piece (Sign sign.Star) ∷ [],
   0,
-  ex.Down t te.AnyElement (spanning (expr_span t).from 0),
-  λ m
-      more h. reads-down (reads-every (takes refl)),
+  go.Down te.AnyElement (spanning from 0),
+  λ m more h. reads-down (reads-every (takes refl)),
 )
-short (childed t n) e =
-    ([], e, ex.Down t (te.Label n) (spanning (expr_span t).from e), λ m more h. reads-down-child)
+short (childed from n) e =
+    ([], e, go.Down (te.Label n) (spanning from e), λ m more h. reads-down-child)
 short (prim d) e = (truth, 0, a_query, λ m more h. reads-literal (takes refl))
 short (within d) e = (
   truth,

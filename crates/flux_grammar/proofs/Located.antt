@@ -31,14 +31,14 @@ backs w (seqs d) (Some (Sign sign.Comma)) k here out =
     λ free (x, s1, p1, (t, s2, p2, (ts, s3, p3, rest))). (_, s3, reads-seqs p1 p2 p3, rest)
 backs w (seqs d) _ k here out = λ free rest. (_, here, reads-no-seqs, rest)
 backs w (tpost d) h k here out =
-    λ free (t, s1, p1, (u, s2, p2, rest)). (_, s2, reads-tpost p1 p2, rest)
-backs w (marks t) (Some (Sign sign.Star)) k here out =
-    λ free (x, s1, p1, (u, s2, p2, rest)). (_, s2, reads-star p1 p2, rest)
-backs w (marks t) (Some (Sign sign.Plus)) k here out =
-    λ free (x, s1, p1, (u, s2, p2, rest)). (_, s2, reads-plus p1 p2, rest)
-backs w (marks t) (Some (Sign sign.Question)) k here out =
-    λ free (x, s1, p1, (u, s2, p2, rest)). (_, s2, reads-opt p1 p2, rest)
-backs w (marks t) _ k here out = λ free rest. (_, here, reads-no-marks, rest)
+    λ free (t, s1, p1, (ms, s2, p2, rest)). (_, s2, reads-tpost p1 p2, rest)
+backs w (marks from) (Some (Sign sign.Star)) k here out =
+    λ free (x, s1, p1, (ms, s2, p2, rest)). (_, s2, reads-star p1 p2, rest)
+backs w (marks from) (Some (Sign sign.Plus)) k here out =
+    λ free (x, s1, p1, (ms, s2, p2, rest)). (_, s2, reads-plus p1 p2, rest)
+backs w (marks from) (Some (Sign sign.Question)) k here out =
+    λ free (x, s1, p1, (ms, s2, p2, rest)). (_, s2, reads-opt p1 p2, rest)
+backs w (marks from) _ k here out = λ free rest. (_, here, reads-no-marks, rest)
 backs w (tatom d) (Some (Sign sign.Open)) k here out =
     λ free (x, s1, p1, (o, s2, p2, (y, s3, p3, rest))). (_, s3, reads-group p1 p2 p3, rest)
 backs w (tatom d) (Some (Quoted n)) k here out =
@@ -162,18 +162,18 @@ backs w (compared d t) (Some (Sign sign.Less)) k here out =
     λ free (x, s1, p1, (v, s2, p2, rest)). (_, s2, reads-less p1 p2, rest)
 backs w (compared d t) _ k here out = λ free rest. (_, here, reads-uncompared, rest)
 backs w (post d) h k here out =
-    λ free (q, s1, p1, (v, s2, p2, rest)). (_, s2, reads-post p1 p2, rest)
-backs w (steps t) (Some (Sign sign.Slash)) k here out =
-    λ free (x, s1, p1, (q, s2, p2, (v, s3, p3, rest))). (_, s3, reads-slash p1 p2 p3, rest)
-backs w (steps t) (Some (Sign sign.DoubleColon)) k here out =
-    λ free (x, s1, p1, (φ, s2, p2, (v, s3, p3, rest))). (_, s3, reads-keep p1 p2 p3, rest)
-backs w (steps t) _ k here out = λ free rest. (_, here, reads-no-steps, rest)
-backs w (qstep t) (Some (Soft soft.ChildWord n)) k here out =
-    λ free (x, s1, p1, (q, s2, p2, rest)). (_, s2, reads-child-step p1 p2, rest)
-backs w (qstep t) _ k here out = λ free (φ, s1, p1, rest). (_, s1, reads-down p1, rest)
-backs w (childed t n) (Some (Sign sign.Open)) k here out =
+    λ free (q, s1, p1, (ss, s2, p2, rest)). (_, s2, reads-post p1 p2, rest)
+backs w (steps from) (Some (Sign sign.Slash)) k here out =
+    λ free (x, s1, p1, (s, s2, p2, (ss, s3, p3, rest))). (_, s3, reads-slash p1 p2 p3, rest)
+backs w (steps from) (Some (Sign sign.DoubleColon)) k here out =
+    λ free (x, s1, p1, (φ, s2, p2, (ss, s3, p3, rest))). (_, s3, reads-keep p1 p2 p3, rest)
+backs w (steps from) _ k here out = λ free rest. (_, here, reads-no-steps, rest)
+backs w (qstep from) (Some (Soft soft.ChildWord n)) k here out =
+    λ free (x, s1, p1, (s, s2, p2, rest)). (_, s2, reads-child-step p1 p2, rest)
+backs w (qstep from) _ k here out = λ free (φ, s1, p1, rest). (_, s1, reads-down p1, rest)
+backs w (childed from n) (Some (Sign sign.Open)) k here out =
     λ free (x, s1, p1, (y, s2, p2, rest)). (_, s2, reads-child p1 p2, rest)
-backs w (childed t n) _ k here out = λ free rest. (_, here, reads-down-child, rest)
+backs w (childed from n) _ k here out = λ free rest. (_, here, reads-down-child, rest)
 backs w (prim d) (Some (Sign sign.Open)) k here out =
     λ free (x, s1, p1, (oq, s2, p2, (y, s3, p3, rest))). (_, s3, reads-paren p1 p2 p3, rest)
 backs w (prim d) (Some (Literal atom)) k here out =

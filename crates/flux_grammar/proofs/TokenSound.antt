@@ -11,7 +11,7 @@ use Rattle.flux_atom.specs.declared.number.NumberState.TheVariants.{Minus, Digit
 use Rattle.flux_atom.specs.declared.text.TextState.TheVariants.{Between}
 use Rattle.flux_atom.specs.Literal.{quote, newline}
 use Rattle.flux_atom.specs.Names.{begins_name, continues_name, IsName}
-use Rattle.flux_atom.specs.NumberSteps.{number_begin, number_from, number_step, read_number}
+use Rattle.flux_atom.specs.NumberSteps.{number_begin, number_step, read_number}
 use Rattle.flux_atom.specs.Space.{is_space, IsSpace}
 use Rattle.flux_atom.specs.TextSteps.{TextStep, on, closes, misfits, text_step, TextRead, and_read, no_text, read_on, read_text}
 use Rattle.flux_atom.proofs.Plain.{name_push}

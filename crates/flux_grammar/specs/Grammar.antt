@@ -13,9 +13,14 @@ use Rattle.flux_grammar.specs.declared.lexeme.Soft.{Soft as SoftWord}
 use Rattle.flux_grammar.specs.declared.lexeme.Soft.TheVariants as soft
 use Rattle.flux_grammar.specs.declared.tree.Expr.{Expr}
 use Rattle.flux_grammar.specs.declared.tree.Expr.TheVariants as ex
+use Rattle.flux_grammar.specs.declared.tree.Mark.{Mark}
 use Rattle.flux_grammar.specs.declared.tree.ParamDef.{ParamDef}
 use Rattle.flux_grammar.specs.declared.tree.Path.{Path}
 use Rattle.flux_grammar.specs.declared.tree.ProcDef.{ProcDef}
+use Rattle.flux_grammar.specs.declared.tree.QueryStep.{QueryStep}
+use Rattle.flux_grammar.specs.declared.tree.QueryStep.TheVariants as go
+use Rattle.flux_grammar.specs.declared.tree.Repetition.{Repetition}
+use Rattle.flux_grammar.specs.declared.tree.Repetition.TheVariants as re
 use Rattle.flux_grammar.specs.declared.tree.Script.{Script}
 use Rattle.flux_grammar.specs.declared.tree.Step.{Step}
 use Rattle.flux_grammar.specs.declared.tree.Stmt.{Stmt}
@@ -54,6 +59,18 @@ abbrev pub seq_of : TypeText → List TypeText → ℕ → TypeText
 seq_of t [] to = t
 seq_of t (u ∷ us) to = ty.Seq (t ∷ u ∷ us) (spanning (type_span t).from to)
 
+abbrev pub mark_of : Repetition → ℕ → ℕ → Mark
+mark_of r from to = record { repetition = r; span = spanning from to }
+
+-- a type without marks, and a query without steps, is as it is
+abbrev pub marked_of : TypeText → List Mark → ℕ → TypeText
+marked_of t [] to = t
+marked_of t (m ∷ ms) to = ty.Marked t (m ∷ ms) (spanning (type_span t).from to)
+
+abbrev pub stepped_of : Expr → List QueryStep → ℕ → Expr
+stepped_of q [] to = q
+stepped_of q (s ∷ ss) to = ex.Stepped q (s ∷ ss) (spanning (expr_span q).from to)
+
 abbrev pub list_of : Expr → List Expr → ℕ → Expr
 list_of q [] to = q
 list_of q (r ∷ rs) to = ex.List (q ∷ r ∷ rs) (spanning (expr_span q).from to)
@@ -71,7 +88,7 @@ pub data Part : Type 0 where
   tseq : (d : ℕ) → Part
   seqs : (d : ℕ) → Part
   tpost : (d : ℕ) → Part
-  marks : (t : TypeText) → Part
+  marks : (from : ℕ) → Part
   tatom : (d : ℕ) → Part
   labelled : (d : ℕ) → (at : Span) → (n : ℕ) → (alone : TypeText) → Part
   content : (d : ℕ) → Part
@@ -95,9 +112,9 @@ pub data Part : Type 0 where
   item : (d : ℕ) → Part
   compared : (d : ℕ) → (t : Expr) → Part
   post : (d : ℕ) → Part
-  steps : (t : Expr) → Part
-  qstep : (t : Expr) → Part
-  childed : (t : Expr) → (n : ℕ) → Part
+  steps : (from : ℕ) → Part
+  qstep : (from : ℕ) → Part
+  childed : (from : ℕ) → (n : ℕ) → Part
   prim : (d : ℕ) → Part
   within : (d : ℕ) → Part
   -- statements
@@ -130,7 +147,7 @@ Value (alts d) = List TypeText
 Value (tseq d) = TypeText
 Value (seqs d) = List TypeText
 Value (tpost d) = TypeText
-Value (marks t) = TypeText
+Value (marks from) = List Mark
 Value (tatom d) = TypeText
 Value (labelled d at n alone) = TypeText
 Value (content d) = Option TypeText
@@ -150,9 +167,9 @@ Value (items d) = List Expr
 Value (item d) = Expr
 Value (compared d t) = Expr
 Value (post d) = Expr
-Value (steps t) = Expr
-Value (qstep t) = Expr
-Value (childed t n) = Expr
+Value (steps from) = List QueryStep
+Value (qstep from) = QueryStep
+Value (childed from n) = QueryStep
 Value (prim d) = Expr
 Value (within d) = Option Expr
 Value (stmts d) = List Stmt
@@ -196,22 +213,19 @@ pub data Reads (w : Option ℕ) : (p : Part) → State → State → Value p →
       Takes (Sign sign.Comma) a x b → Reads w (tpost d) b c t → Reads w (seqs d) c e ts →
       Reads w (seqs d) a e (t ∷ ts)
   -- tpost = tatom ("*" | "+" | "?")*
-  reads-tpost : {d : ℕ} {a b c : State} {t u : TypeText} →
-      Reads w (tatom d) a b t → Reads w (marks t) b c u →
-      Reads w (tpost d) a c u
-  reads-no-marks : {t : TypeText} {a : State} → Reads w (marks t) a a t
-  reads-star : {t u : TypeText} {a b c : State} {x : Piece} →
-      Takes (Sign sign.Star) a x b →
-      Reads w (marks (ty.Star t (spanning (type_span t).from x.span.to))) b c u →
-      Reads w (marks t) a c u
-  reads-plus : {t u : TypeText} {a b c : State} {x : Piece} →
-      Takes (Sign sign.Plus) a x b →
-      Reads w (marks (ty.Plus t (spanning (type_span t).from x.span.to))) b c u →
-      Reads w (marks t) a c u
-  reads-opt : {t u : TypeText} {a b c : State} {x : Piece} →
-      Takes (Sign sign.Question) a x b →
-      Reads w (marks (ty.Opt t (spanning (type_span t).from x.span.to))) b c u →
-      Reads w (marks t) a c u
+  reads-tpost : {d : ℕ} {a b c : State} {t : TypeText} {ms : List Mark} →
+      Reads w (tatom d) a b t → Reads w (marks (type_span t).from) b c ms →
+      Reads w (tpost d) a c (marked_of t ms (end c))
+  reads-no-marks : {from : ℕ} {a : State} → Reads w (marks from) a a []
+  reads-star : {from : ℕ} {ms : List Mark} {a b c : State} {x : Piece} →
+      Takes (Sign sign.Star) a x b → Reads w (marks from) b c ms →
+      Reads w (marks from) a c (mark_of re.Star from x.span.to ∷ ms)
+  reads-plus : {from : ℕ} {ms : List Mark} {a b c : State} {x : Piece} →
+      Takes (Sign sign.Plus) a x b → Reads w (marks from) b c ms →
+      Reads w (marks from) a c (mark_of re.Plus from x.span.to ∷ ms)
+  reads-opt : {from : ℕ} {ms : List Mark} {a b c : State} {x : Piece} →
+      Takes (Sign sign.Question) a x b → Reads w (marks from) b c ms →
+      Reads w (marks from) a c (mark_of re.Optional from x.span.to ∷ ms)
   -- tatom = "(" type? ")" | label "[" type? "]" | "any" "[" type? "]"
   --       | "string" | "bool" | "int" | tname
   -- A name of a type, `string`, `bool` and `int` are labels where a square bracket follows them, so
@@ -379,31 +393,30 @@ pub data Reads (w : Option ℕ) : (p : Part) → State → State → Value p →
       Takes (Sign sign.Less) a x b → Reads w (post d) b c v →
       Reads w (compared d t) a c (ex.Less t v (spanning (expr_span t).from (end c)))
   -- post = prim ("/" qstep | "::" test)*
-  reads-post : {d : ℕ} {a b c : State} {q v : Expr} →
-      Reads w (prim d) a b q → Reads w (steps q) b c v →
-      Reads w (post d) a c v
-  reads-no-steps : {t : Expr} {a : State} → Reads w (steps t) a a t
-  reads-slash : {t q v : Expr} {a b c e : State} {x : Piece} →
-      Takes (Sign sign.Slash) a x b → Reads w (qstep t) b c q → Reads w (steps q) c e v →
-      Reads w (steps t) a e v
-  reads-keep : {t v : Expr} {a b c e : State} {x : Piece} {φ : TestText × ℕ} →
-      Takes (Sign sign.DoubleColon) a x b → Reads w test b c φ →
-      Reads w (steps (ex.Filter t φ.0 (spanning (expr_span t).from (end c)))) c e v →
-      Reads w (steps t) a e v
+  reads-post : {d : ℕ} {a b c : State} {q : Expr} {ss : List QueryStep} →
+      Reads w (prim d) a b q → Reads w (steps (expr_span q).from) b c ss →
+      Reads w (post d) a c (stepped_of q ss (end c))
+  reads-no-steps : {from : ℕ} {a : State} → Reads w (steps from) a a []
+  reads-slash : {from : ℕ} {s : QueryStep} {ss : List QueryStep} {a b c e : State} {x : Piece} →
+      Takes (Sign sign.Slash) a x b → Reads w (qstep from) b c s → Reads w (steps from) c e ss →
+      Reads w (steps from) a e (s ∷ ss)
+  reads-keep : {from : ℕ} {ss : List QueryStep} {a b c e : State} {x : Piece} {φ : TestText × ℕ} →
+      Takes (Sign sign.DoubleColon) a x b → Reads w test b c φ → Reads w (steps from) c e ss →
+      Reads w (steps from) a e (go.Filter φ.0 (spanning from (end c)) ∷ ss)
   -- qstep = test | "child" "(" ")"
   -- `child` is a label where no parenthesis follows it, so what follows is read by itself:
   -- `("(" ")")?`
-  reads-child-step : {t q : Expr} {a b c : State} {x : Piece} {n : ℕ} →
-      Takes (Soft soft.ChildWord n) a x b → Reads w (childed t n) b c q →
-      Reads w (qstep t) a c q
-  reads-down : {t : Expr} {a b : State} {φ : TestText × ℕ} →
+  reads-child-step : {from n : ℕ} {s : QueryStep} {a b c : State} {x : Piece} →
+      Takes (Soft soft.ChildWord n) a x b → Reads w (childed from n) b c s →
+      Reads w (qstep from) a c s
+  reads-down : {from : ℕ} {a b : State} {φ : TestText × ℕ} →
       Reads w other a b φ →
-      Reads w (qstep t) a b (ex.Down t φ.0 (spanning (expr_span t).from (end b)))
-  reads-down-child : {t : Expr} {n : ℕ} {a : State} →
-      Reads w (childed t n) a a (ex.Down t (te.Label n) (spanning (expr_span t).from (end a)))
-  reads-child : {t : Expr} {n : ℕ} {a b c : State} {x y : Piece} →
+      Reads w (qstep from) a b (go.Down φ.0 (spanning from (end b)))
+  reads-down-child : {from n : ℕ} {a : State} →
+      Reads w (childed from n) a a (go.Down (te.Label n) (spanning from (end a)))
+  reads-child : {from n : ℕ} {a b c : State} {x y : Piece} →
       Takes (Sign sign.Open) a x b → Takes (Sign sign.Close) b y c →
-      Reads w (childed t n) a c (ex.Child t (spanning (expr_span t).from y.span.to))
+      Reads w (childed from n) a c (go.Child (spanning from y.span.to))
   -- prim = "(" expr? ")" | string | number | "true" | "false" | var | label "[" expr? "]"
   reads-paren : {d : ℕ} {a b c e : State} {x y : Piece} {oq : Option Expr} →
       Takes (Sign sign.Open) a x b → Reads w (within d) b c oq → Takes (Sign sign.Close) c y e →

@@ -10,12 +10,14 @@ use Rattle.flux_grammar.specs.declared.lexeme.Piece.{Piece}
 use Rattle.flux_grammar.specs.declared.lexeme.Sign.TheVariants as sign
 use Rattle.flux_grammar.specs.declared.lexeme.Soft.TheVariants as soft
 use Rattle.flux_grammar.specs.declared.tree.Expr.TheVariants as ex
+use Rattle.flux_grammar.specs.declared.tree.QueryStep.TheVariants as go
+use Rattle.flux_grammar.specs.declared.tree.Repetition.TheVariants as re
 use Rattle.flux_grammar.specs.declared.tree.Stmt.TheVariants as st
 use Rattle.flux_grammar.specs.declared.tree.TestText.TheVariants as te
 use Rattle.flux_grammar.specs.declared.tree.TypeText.TheVariants as ty
 use Rattle.flux_grammar.specs.Spans.{type_span, expr_span, stmt_span}
 use Rattle.flux_grammar.specs.States.{State, end, head, Takes}
-use Rattle.flux_grammar.specs.Grammar.{Free, spanning, alt_of, seq_of, list_of, step_of, Part, type, alts, tseq, seqs, tpost, marks, tatom, labelled, content, label, tname, var, test, other, tested, path, slashes, step, spot, filtered, expr, items, item, compared, post, steps, qstep, childed, prim, within, stmts, nexts, ending, stmt, guard, simple, inserting, placing, deleting, replacing, args, typedefs, typedef, procdefs, procdef, params, params_on, param, output, script, Value}
+use Rattle.flux_grammar.specs.Grammar.{Free, spanning, alt_of, seq_of, list_of, mark_of, marked_of, stepped_of, step_of, Part, type, alts, tseq, seqs, tpost, marks, tatom, labelled, content, label, tname, var, test, other, tested, path, slashes, step, spot, filtered, expr, items, item, compared, post, steps, qstep, childed, prim, within, stmts, nexts, ending, stmt, guard, simple, inserting, placing, deleting, replacing, args, typedefs, typedef, procdefs, procdef, params, params_on, param, output, script, Value}
 
 pub data Prog : Type 0 where
   done : (p : Part) → Value p → Prog
@@ -34,17 +36,19 @@ body (tseq d) h k = Some (call (tpost d) (λ t. call (seqs d) (λ ts. mark (λ e
 body (seqs d) (Some (Sign sign.Comma)) k =
     Some (take (Sign sign.Comma) (λ x. call (tpost d) (λ t. call (seqs d) (λ ts. k (t ∷ ts)))))
 body (seqs d) _ k = Some (k [])
-body (tpost d) h k = Some (call (tatom d) (λ t. call (marks t) k))
-body (marks t) (Some (Sign sign.Star)) k =
-    Some (take (Sign sign.Star) (λ x. call (marks (ty.Star t (spanning (type_span t).from
-    x.span.to))) k))
-body (marks t) (Some (Sign sign.Plus)) k =
-    Some (take (Sign sign.Plus) (λ x. call (marks (ty.Plus t (spanning (type_span t).from
-    x.span.to))) k))
-body (marks t) (Some (Sign sign.Question)) k =
-    Some (take (Sign sign.Question) (λ x. call (marks (ty.Opt t (spanning (type_span t).from
-    x.span.to))) k))
-body (marks t) _ k = Some (k t)
+body (tpost d) h k =
+    Some (call (tatom d) (λ t. call (marks (type_span t).from) (λ ms. mark (λ e. k (marked_of t ms
+    e)))))
+body (marks from) (Some (Sign sign.Star)) k =
+    Some (take (Sign sign.Star) (λ x. call (marks from) (λ ms. k (mark_of re.Star from x.span.to ∷
+    ms))))
+body (marks from) (Some (Sign sign.Plus)) k =
+    Some (take (Sign sign.Plus) (λ x. call (marks from) (λ ms. k (mark_of re.Plus from x.span.to ∷
+    ms))))
+body (marks from) (Some (Sign sign.Question)) k =
+    Some (take (Sign sign.Question) (λ x. call (marks from) (λ ms. k (mark_of re.Optional from
+    x.span.to ∷ ms))))
+body (marks from) _ k = Some (k [])
 body (tatom d) (Some (Sign sign.Open)) k =
     Some (take (Sign sign.Open) (λ x. call (content d) (λ o. take (Sign sign.Close) (λ y. k
     (ty.Group o (spanning x.span.from y.span.to))))))
@@ -144,22 +148,23 @@ body (compared d t) (Some (Sign sign.Less)) k =
     Some (take (Sign sign.Less) (λ x. call (post d) (λ v. mark (λ e. k (ex.Less t v (spanning
     (expr_span t).from e))))))
 body (compared d t) _ k = Some (k t)
-body (post d) h k = Some (call (prim d) (λ q. call (steps q) k))
-body (steps t) (Some (Sign sign.Slash)) k =
-    Some (take (Sign sign.Slash) (λ x. call (qstep t) (λ q. call (steps q) k)))
-body (steps t) (Some (Sign sign.DoubleColon)) k =
-    Some (take (Sign sign.DoubleColon) (λ x. call test (λ φ. mark (λ e. call (steps (ex.Filter t φ.0
-    (spanning (expr_span t).from e))) k))))
-body (steps t) _ k = Some (k t)
-body (qstep t) (Some (Soft soft.ChildWord n)) k =
-    Some (take (Soft soft.ChildWord n) (λ x. call (childed t n) k))
-body (qstep t) _ k =
-    Some (call other (λ φ. mark (λ e. k (ex.Down t φ.0 (spanning (expr_span t).from e)))))
-body (childed t n) (Some (Sign sign.Open)) k =
-    Some (take (Sign sign.Open) (λ x. take (Sign sign.Close) (λ y. k (ex.Child t (spanning
-    (expr_span t).from y.span.to)))))
-body (childed t n) _ k =
-    Some (mark (λ e. k (ex.Down t (te.Label n) (spanning (expr_span t).from e))))
+body (post d) h k =
+    Some (call (prim d) (λ q. call (steps (expr_span q).from) (λ ss. mark (λ e. k (stepped_of q ss
+    e)))))
+body (steps from) (Some (Sign sign.Slash)) k =
+    Some (take (Sign sign.Slash) (λ x. call (qstep from) (λ s. call (steps from) (λ ss. k (s ∷
+    ss)))))
+body (steps from) (Some (Sign sign.DoubleColon)) k =
+    Some (take (Sign sign.DoubleColon) (λ x. call test (λ φ. mark (λ e. call (steps from) (λ ss. k
+    (go.Filter φ.0 (spanning from e) ∷ ss))))))
+body (steps from) _ k = Some (k [])
+body (qstep from) (Some (Soft soft.ChildWord n)) k =
+    Some (take (Soft soft.ChildWord n) (λ x. call (childed from n) k))
+body (qstep from) _ k = Some (call other (λ φ. mark (λ e. k (go.Down φ.0 (spanning from e)))))
+body (childed from n) (Some (Sign sign.Open)) k =
+    Some (take (Sign sign.Open) (λ x. take (Sign sign.Close) (λ y. k (go.Child (spanning from
+    y.span.to)))))
+body (childed from n) _ k = Some (mark (λ e. k (go.Down (te.Label n) (spanning from e))))
 body (prim d) (Some (Sign sign.Open)) k =
     Some (take (Sign sign.Open) (λ x. call (within d) (λ oq. take (Sign sign.Close) (λ y. k
     (ex.Group oq (spanning x.span.from y.span.to))))))

@@ -13,9 +13,7 @@ use Rattle.flux_grammar.specs.declared.tree.Stmt.TheFolds.{fold-Stmt}
 abbrev pub type_span_step : TypeText-F Span → Span
 type_span_step (TypeText-F.Alt ts at) = at
 type_span_step (TypeText-F.Seq ts at) = at
-type_span_step (TypeText-F.Star t at) = at
-type_span_step (TypeText-F.Plus t at) = at
-type_span_step (TypeText-F.Opt t at) = at
+type_span_step (TypeText-F.Marked t ms at) = at
 type_span_step (TypeText-F.Group t at) = at
 type_span_step (TypeText-F.Elem n t at) = at
 type_span_step (TypeText-F.AnyElem t at) = at
@@ -32,9 +30,7 @@ expr_span_step (Expr-F.Let x q r at) = at
 expr_span_step (Expr-F.If q r s at) = at
 expr_span_step (Expr-F.Same q r at) = at
 expr_span_step (Expr-F.Less q r at) = at
-expr_span_step (Expr-F.Down q t at) = at
-expr_span_step (Expr-F.Child q at) = at
-expr_span_step (Expr-F.Filter q t at) = at
+expr_span_step (Expr-F.Stepped q ss at) = at
 expr_span_step (Expr-F.Group q at) = at
 expr_span_step (Expr-F.Lit a at) = at
 expr_span_step (Expr-F.Var x at) = at

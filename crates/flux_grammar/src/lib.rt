@@ -12,4 +12,7 @@ pub use laws::{
 };
 pub use lexeme::{Keyword, Lexeme, Piece, Sign, Soft};
 pub use token::{Token, TokenKind};
-pub use tree::{Expr, ParamDef, Path, ProcDef, Script, Step, Stmt, TestText, TypeDef, TypeText};
+pub use tree::{
+    Expr, Mark, ParamDef, Path, ProcDef, QueryStep, Repetition, Script, Step, Stmt, TestText,
+    TypeDef, TypeText,
+};

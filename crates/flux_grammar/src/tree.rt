@@ -52,9 +52,8 @@ pub enum TypeText {
     Alt(Items<TypeText>, Span),
     /// Two parts or more with `,` between them.
     Seq(Items<TypeText>, Span),
-    Star(Boxed<TypeText>, Span),
-    Plus(Boxed<TypeText>, Span),
-    Opt(Boxed<TypeText>, Span),
+    /// A type and one mark or more behind it.
+    Marked(Boxed<TypeText>, Items<Mark>, Span),
     /// A pair of parentheses.
     Group(Option<Boxed<TypeText>>, Span),
     Elem(Name, Option<Boxed<TypeText>>, Span),
@@ -72,9 +71,7 @@ impl TypeText {
         match self {
             TypeText::Alt(_, span)
             | TypeText::Seq(_, span)
-            | TypeText::Star(_, span)
-            | TypeText::Plus(_, span)
-            | TypeText::Opt(_, span)
+            | TypeText::Marked(_, _, span)
             | TypeText::Group(_, span)
             | TypeText::Elem(_, _, span)
             | TypeText::AnyElem(_, span)
@@ -82,6 +79,25 @@ impl TypeText {
             | TypeText::Named(_, span) => *span,
         }
     }
+}
+
+/// A mark behind a type.
+#[derive(Clone, Copy, Debug, PartialEq, Eq)]
+pub struct Mark {
+    pub repetition: Repetition,
+    /// The type up to this mark and with it.
+    pub span: Span,
+}
+
+/// How often a type with a mark stands.
+#[derive(Clone, Copy, Debug, PartialEq, Eq)]
+pub enum Repetition {
+    /// `*`: any number of times.
+    Star,
+    /// `+`: once or more.
+    Plus,
+    /// `?`: once or not at all.
+    Optional,
 }
 
 /// A statement as it is written, with the span of its text.
@@ -173,12 +189,8 @@ pub enum Expr {
     If(Boxed<Expr>, Boxed<Expr>, Boxed<Expr>, Span),
     Same(Boxed<Expr>, Boxed<Expr>, Span),
     Less(Boxed<Expr>, Boxed<Expr>, Span),
-    /// `/` and a test.
-    Down(Boxed<Expr>, TestText, Span),
-    /// `/child()`.
-    Child(Boxed<Expr>, Span),
-    /// `::` and a test.
-    Filter(Boxed<Expr>, TestText, Span),
+    /// A query and one step or more behind it.
+    Stepped(Boxed<Expr>, Items<QueryStep>, Span),
     /// A pair of parentheses.
     Group(Option<Boxed<Expr>>, Span),
     Lit(Atom, Span),
@@ -198,13 +210,22 @@ impl Expr {
             | Expr::If(_, _, _, span)
             | Expr::Same(_, _, span)
             | Expr::Less(_, _, span)
-            | Expr::Down(_, _, span)
-            | Expr::Child(_, span)
-            | Expr::Filter(_, _, span)
+            | Expr::Stepped(_, _, span)
             | Expr::Group(_, span)
             | Expr::Lit(_, span)
             | Expr::Var(_, span)
             | Expr::Elem(_, _, span) => *span,
         }
     }
+}
+
+/// A step behind a query, with the span of the query up to this step and with it.
+#[derive(Debug, Drop)]
+pub enum QueryStep {
+    /// `/` and a test.
+    Down(TestText, Span),
+    /// `/child()`.
+    Child(Span),
+    /// `::` and a test.
+    Filter(TestText, Span),
 }

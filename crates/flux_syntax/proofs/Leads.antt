@@ -1,14 +1,13 @@
 -- How runs of the machine go on, step by step.
-use Rattle.std.proofs.Common.{◌≡◌, ℕ, List, [], ◌∷◌, ◌++◌, Option, Some, None, Result, Ok, Err, refl, sym, ap, subst, ◌∙◌, append_assoc, ◌↔◌, ◌<◌, ◌-◌, Bool, false, IsTrue, length, get_or, take as take-first, drop, arith}
+use Rattle.std.proofs.Common.{◌≡◌, ℕ, List, [], ◌∷◌, ◌++◌, Some, None, Result, Ok, Err, sym, ap, subst, ◌∙◌, append_assoc, ◌↔◌, ◌<◌, ◌≤◌, ◌-◌, Bool, false, IsTrue, length, get_or, take as take-first, drop, arith}
 use Rattle.std.proofs.lemmas.List.{append-nil, take_all}
 use Rattle.std.proofs.lemmas.Option.{same_Some}
 use mathlib.Core.Path.{fun_ext}
-use Rattle.flux_calculus.specs.declared.ask.Span.{Span}
 use Rattle.flux_grammar.specs.declared.lexeme.Lexeme.{Lexeme}
 use Rattle.flux_grammar.specs.declared.lexeme.Piece.{Piece}
 use Rattle.flux_grammar.specs.States.{State, state, end, head, Takes, takes}
-use Rattle.flux_grammar.specs.Grammar.{Part, Value}
-use Rattle.flux_grammar.specs.Machine.{Prog, take, mark, call, body, FreeFor, Outcome, faults, Runs, runs-take, runs-mark, runs-call, runs-none, runs-unfit}
+use Rattle.flux_grammar.specs.Grammar.{limit, Part, Value}
+use Rattle.flux_grammar.specs.Machine.{Prog, take, mark, call, body, FreeFor, Outcome, Runs, runs-take, runs-mark, runs-call, runs-none, runs-unfit, runs-deep}
 use Rattle.flux_syntax.specs.declared.reader.Fault.{Fault}
 use Rattle.flux_syntax.specs.declared.reader.Fault.TheVariants.{Unfit, Memory}
 use Rattle.flux_syntax.specs.Parses.{Reading, Gives, Refused, Gets, Parses, Stops, Took, Made, piece}
@@ -42,8 +41,8 @@ given {f = f} l t = leads (λ k o r. runs_on l k o (t (f k) o r))
 pub given_by : {A B : Type 0} {g : Reading A} {z s s' : State} {v : B} (q : Reading B) (h : (A → Prog) → B → Prog) → Leads g z (λ k. q (h k)) s → Gives q s s' v → Leads g z (λ k. h k v) s'
 given_by q h l t = leads (λ k o r. runs_on l k o (t (h k) o r))
 
-pub marked : {K : Type 0} {g : K → Prog} {z s : State} {f : K → ℕ → Prog} → Leads g z (λ k. mark (f k)) s → Leads g z (λ k. f k (end s)) s
-marked l = leads (λ k o r. runs_on l k o (runs-mark r))
+pub past_mark : {K : Type 0} {g : K → Prog} {z s : State} {f : K → ℕ → Prog} → Leads g z (λ k. mark (f k)) s → Leads g z (λ k. f k (end s)) s
+past_mark l = leads (λ k o r. runs_on l k o (runs-mark r))
 
 -- what was read, and what is to be read, of a list
 pub begun : {A : Type 0} {z : State} {all : List A} (again : Reading (List A)) → all ≡ [] → Leads again z (λ k. again (λ ts. k (all ++ ts))) z
@@ -101,6 +100,10 @@ passes g z s' r e x h = subst (Gets g z s') (sym (x.1 ∙ ap Err x.2)) h
 
 pub same_tree : {A : Type 0} {g : Reading A} {z s : State} {v w : A} → w ≡ v → Gives g z s v → Gives g z s w
 same_tree {g = g} {z = z} {s = s} e l = subst (Gives g z s) (sym e) l
+
+-- the part lies too deep to begin here
+pub deep_here : (p : Part) (s : State) (d : ℕ) → limit ≤ d → (FreeFor None p s → d < limit) → Refused (call p) s s
+deep_here p s d deep free = λ k. runs-deep (λ f. let below = free f in omega (arith, deep, below))
 
 -- nothing of the part can begin here
 pub none_here : (p : Part) (s : State) → ((k : Value p → Prog) → body p (head s) k ≡ None) → Refused (call p) s s

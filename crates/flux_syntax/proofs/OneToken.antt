@@ -1,5 +1,5 @@
 -- What one token is to the grammar, and which name it writes.
-use Rattle.std.proofs.Common.{◌≡◌, ◌≢◌, ◌-◌, ◌+◌, ◌<◌, ◌++◌, ℕ, Bool, true, false, List, [], ◌∷◌, None, Some, length, take, codes, inl, inr, ◌⊎◌, sym, ap, subst, subst₂, ◌∙◌, arith, append-nil, refl}
+use Rattle.std.proofs.Common.{◌≡◌, ◌≢◌, ◌-◌, ◌+◌, ◌<◌, ◌++◌, ℕ, Bool, true, List, [], ◌∷◌, None, Some, length, codes, inl, inr, ◌⊎◌, sym, ap, subst, subst₂, ◌∙◌, arith, append-nil, refl}
 use Rattle.std.specs.Prelude.{slice_range, if◌then◌else◌}
 use Rattle.std.specs.Str.{IsUtf8}
 use Rattle.std.proofs.lemmas.Bool.Decides.{nat_tests}
@@ -11,7 +11,6 @@ use Rattle.flux_atom.specs.declared.atom.Atom.{Atom}
 use Rattle.flux_atom.specs.declared.atom.Atom.TheVariants.{Bool as Truth, Text, Int as Whole}
 use Rattle.flux_atom.specs.Literal.{literal}
 use Rattle.flux_atom.specs.Names.{continues_name, with_text, IsName}
-use Rattle.flux_atom.specs.Reserved.{is_reserved}
 use Rattle.flux_atom.specs.Spelling.{EndsLiteral, IsLiteral, IsLiteralAt}
 use Rattle.flux_atom.proofs.StandingLiterals.{at_from_stands, literal_unique}
 use Rattle.flux_grammar.specs.declared.lexeme.Keyword.{Keyword}

@@ -1,47 +1,31 @@
 -- What is chosen of queries.
-use Rattle.std.proofs.Common.{◌≡◌, ℕ, ◌+◌, ◌<◌, ◌≤◌, List, [], Option, Some, None, refl, sym, ap, arith}
+use Rattle.std.proofs.Common.{◌≡◌, ℕ, ◌+◌, List, [], Option, Some, None, Result, refl, sym, ap, subst}
 use Rattle.std.proofs.lemmas.Option.{same_Some}
 use Rattle.flux_atom.specs.declared.atom.Atom.{Atom}
 use Rattle.flux_grammar.specs.declared.lexeme.Keyword.TheVariants as key
 use Rattle.flux_grammar.specs.declared.lexeme.Lexeme.{Lexeme}
-use Rattle.flux_grammar.specs.declared.lexeme.Lexeme.TheVariants.{Reserved, Sign, Word, Soft, Quoted, Var, Literal}
+use Rattle.flux_grammar.specs.declared.lexeme.Lexeme.TheVariants.{Reserved, Sign, Soft, Var, Literal}
 use Rattle.flux_grammar.specs.declared.lexeme.Sign.TheVariants as sign
 use Rattle.flux_grammar.specs.declared.lexeme.Soft.TheVariants as soft
 use Rattle.flux_grammar.specs.declared.tree.Expr.{Expr}
 use Rattle.flux_grammar.specs.declared.tree.Expr.TheVariants as ex
+use Rattle.flux_grammar.specs.declared.tree.QueryStep.{QueryStep}
+use Rattle.flux_grammar.specs.declared.tree.QueryStep.TheVariants as go
 use Rattle.flux_grammar.specs.declared.tree.TestText.TheVariants as te
-use Rattle.flux_grammar.specs.Spans.{expr_span}
-use Rattle.flux_grammar.specs.States.{State, head}
-use Rattle.flux_grammar.specs.Grammar.{Value, limit, spanning, label, other, expr, items, item, compared, post, steps, qstep, childed, prim, within}
-use Rattle.flux_grammar.specs.Machine.{Prog, take, mark, call, body, runs-deep}
+use Rattle.flux_grammar.specs.States.{State}
+use Rattle.flux_grammar.specs.Grammar.{spanning, label, other, expr, items, item, compared, post, steps, qstep, childed, prim, within}
+use Rattle.flux_grammar.specs.Machine.{Prog, take, mark, call, body}
 use Rattle.flux_syntax.specs.At.{next_child, next_var, next_literal, IsOther}
-use Rattle.flux_syntax.specs.Parses.{Refused}
-
-pub item_deep : (d : ℕ) (s : State) → limit ≤ d → Refused (call (item d)) s s
-item_deep d s le = λ k. runs-deep (λ f. no (f tt))
-  where
-    no : d < limit → ⊥
-    no lt = omega arith
+use Rattle.flux_syntax.specs.declared.reader.Fault.{Fault}
+use Rattle.flux_syntax.specs.Parses.{Parses}
 
 pub var_here : (h : Option Lexeme) (n : ℕ) → Some n ≡ next_var h → h ≡ Some (Var n)
 var_here (Some (Var m)) n e = ap (λ m. Some (Var m)) (same_Some m n (sym e))
-var_here (Some (Reserved k)) n e = cc
-var_here (Some (Sign s)) n e = cc
-var_here (Some (Word m)) n e = cc
-var_here (Some (Soft s m)) n e = cc
-var_here (Some (Quoted m)) n e = cc
-var_here (Some (Literal a)) n e = cc
-var_here None n e = cc
+var_here _ n e = cc
 
 pub literal_here : (h : Option Lexeme) (a : Atom) → Some a ≡ next_literal h → h ≡ Some (Literal a)
 literal_here (Some (Literal b)) a e = ap (λ x. Some (Literal x)) (same_Some b a (sym e))
-literal_here (Some (Reserved k)) a e = cc
-literal_here (Some (Sign s)) a e = cc
-literal_here (Some (Word m)) a e = cc
-literal_here (Some (Soft s m)) a e = cc
-literal_here (Some (Quoted m)) a e = cc
-literal_here (Some (Var m)) a e = cc
-literal_here None a e = cc
+literal_here _ a e = cc
 
 pub no_items : (d : ℕ) (h : Option Lexeme) → (h ≡ Some (Sign sign.Comma) → ⊥) → (k : List Expr → Prog) → body (items d) h k ≡ Some (k [])
 no_items d (Some (Sign sign.Comma)) n k = absurd (n refl)
@@ -58,18 +42,22 @@ uncompared d q (Some (Sign sign.Equal)) n m k = absurd (n refl)
 uncompared d q (Some (Sign sign.Less)) n m k = absurd (m refl)
 uncompared d q _ n m k = refl
 
-pub no_steps : (q : Expr) (h : Option Lexeme) → (h ≡ Some (Sign sign.Slash) → ⊥) → (h ≡ Some (Sign sign.DoubleColon) → ⊥) → (k : Expr → Prog) → body (steps q) h k ≡ Some (k q)
-no_steps q (Some (Sign sign.Slash)) n m k = absurd (n refl)
-no_steps q (Some (Sign sign.DoubleColon)) n m k = absurd (m refl)
-no_steps q _ n m k = refl
+pub no_steps : (from : ℕ) (h : Option Lexeme) → (h ≡ Some (Sign sign.Slash) → ⊥) → (h ≡ Some (Sign sign.DoubleColon) → ⊥) → (k : List QueryStep → Prog) → body (steps from) h k ≡ Some (k [])
+no_steps from (Some (Sign sign.Slash)) n m k = absurd (n refl)
+no_steps from (Some (Sign sign.DoubleColon)) n m k = absurd (m refl)
+no_steps from _ n m k = refl
 
-pub plain_step : (q : Expr) (h : Option Lexeme) → None ≡ next_child h → (k : Expr → Prog) → body (qstep q) h k ≡ Some (call other (λ φ. mark (λ e. k (ex.Down q φ.0 (spanning (expr_span q).from e)))))
-plain_step q (Some (Soft soft.ChildWord n)) e k = cc
-plain_step q _ e k = refl
+-- the steps behind a query that begins there
+pub steps_from : {a b : ℕ} (s s' : State) (r : Result (List QueryStep) Fault) → a ≡ b → Parses (steps a) s s' r → Parses (steps b) s s' r
+steps_from s s' r same h = subst (λ n. Parses (steps n) s s' r) same h
 
-pub child_label : (q : Expr) (n : ℕ) (h : Option Lexeme) → (h ≡ Some (Sign sign.Open) → ⊥) → (k : Expr → Prog) → body (childed q n) h k ≡ Some (mark (λ e. k (ex.Down q (te.Label n) (spanning (expr_span q).from e))))
-child_label q n (Some (Sign sign.Open)) f k = absurd (f refl)
-child_label q n _ f k = refl
+pub plain_step : (from : ℕ) (h : Option Lexeme) → None ≡ next_child h → (k : QueryStep → Prog) → body (qstep from) h k ≡ Some (call other (λ φ. mark (λ e. k (go.Down φ.0 (spanning from e)))))
+plain_step from (Some (Soft soft.ChildWord n)) e k = cc
+plain_step from _ e k = refl
+
+pub child_label : (from n : ℕ) (h : Option Lexeme) → (h ≡ Some (Sign sign.Open) → ⊥) → (k : QueryStep → Prog) → body (childed from n) h k ≡ Some (mark (λ e. k (go.Down (te.Label n) (spanning from e))))
+child_label from n (Some (Sign sign.Open)) f k = absurd (f refl)
+child_label from n _ f k = refl
 
 pub is_other : (h : Option Lexeme) → (h ≡ Some (Sign sign.Open) → ⊥) → None ≡ next_var h → None ≡ next_literal h → IsOther h
 is_other (Some (Sign sign.Open)) n e f = n refl

@@ -4,7 +4,7 @@ use Rattle.std.specs.Prelude.{bytes_eq, slice_range, if◌then◌else◌}
 use Rattle.std.specs.List.{list_any}
 use Rattle.std.proofs.lemmas.List.{drop_more, get_or_append_left, length-append, take_more}
 use Rattle.std.proofs.lemmas.Option.{get_or_from_slice_get, slice_get-get_or, slice_get_within}
-use Rattle.flux_atom.specs.Names.{with_text, IsTable}
+use Rattle.flux_atom.specs.Names.{IsTable}
 use Rattle.flux_grammar.specs.declared.lexeme.Lexeme.{Lexeme}
 use Rattle.flux_grammar.specs.declared.lexeme.Piece.{Piece}
 use Rattle.flux_grammar.specs.declared.token.Token.{Token}

@@ -1,5 +1,5 @@
 -- What is chosen of paths, statements and scripts.
-use Rattle.std.proofs.Common.{◌≡◌, ℕ, ◌+◌, ◌<◌, ◌≤◌, List, [], ◌∷◌, Option, Some, None, ◌↔◌, refl, sym, ap, ap₂, subst, arith}
+use Rattle.std.proofs.Common.{◌≡◌, ℕ, ◌+◌, List, [], ◌∷◌, Option, Some, None, ◌↔◌, refl, sym, ap, ap₂, subst}
 use Rattle.flux_grammar.specs.declared.lexeme.Keyword.TheVariants as key
 use Rattle.flux_grammar.specs.declared.lexeme.Lexeme.{Lexeme}
 use Rattle.flux_grammar.specs.declared.lexeme.Lexeme.TheVariants.{Reserved, Sign, Var}
@@ -14,11 +14,10 @@ use Rattle.flux_grammar.specs.declared.tree.Stmt.{Stmt}
 use Rattle.flux_grammar.specs.declared.tree.Stmt.TheVariants as st
 use Rattle.flux_grammar.specs.declared.tree.TypeDef.{TypeDef}
 use Rattle.flux_grammar.specs.declared.tree.TypeText.{TypeText}
-use Rattle.flux_grammar.specs.States.{State, head}
-use Rattle.flux_grammar.specs.Grammar.{Value, limit, spanning, step_of, test, path, slashes, step, spot, filtered, item, items, expr, stmts, nexts, ending, stmt, guard, simple, inserting, placing, deleting, replacing, args, typedef, typedefs, procdef, procdefs, params, params_on, param, output}
-use Rattle.flux_grammar.specs.Machine.{Prog, take, mark, call, body, runs-deep}
+use Rattle.flux_grammar.specs.States.{State}
+use Rattle.flux_grammar.specs.Grammar.{Value, spanning, step_of, test, path, slashes, step, spot, filtered, item, items, stmts, nexts, ending, stmt, guard, simple, inserting, placing, deleting, replacing, args, typedefs, procdefs, params, params_on, param, output}
+use Rattle.flux_grammar.specs.Machine.{Prog, mark, call, body}
 use Rattle.flux_syntax.specs.At.{next_var, IsEnding}
-use Rattle.flux_syntax.specs.Parses.{Refused}
 use Rattle.flux_syntax.specs.Steps.{path_and_other}
 use Rattle.flux_syntax.proofs.Leads.{Leads}
 
@@ -41,12 +40,6 @@ no_filter d (Some (Sign sign.OpenSquare)) n k = absurd (n refl)
 no_filter d _ n k = refl
 
 -- ---- statements
-
-pub stmt_deep : (d : ℕ) (s : State) → limit ≤ d → Refused (call (stmt d)) s s
-stmt_deep d s le = λ k. runs-deep (λ f. no (f tt))
-  where
-    no : d < limit → ⊥
-    no lt = omega arith
 
 pub no_nexts : (d : ℕ) (h : Option Lexeme) → (h ≡ Some (Sign sign.Semicolon) → ⊥) → (k : List Stmt → Prog) → body (nexts d) h k ≡ Some (k [])
 no_nexts d (Some (Sign sign.Semicolon)) n k = absurd (n refl)

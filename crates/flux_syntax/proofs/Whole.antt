@@ -1,11 +1,11 @@
 -- From runs for a whole text to its tree, or to the place where it has none.
-use Rattle.std.proofs.Common.{◌≡◌, ◌<◌, ◌≤◌, ℕ, List, [], ◌∷◌, Option, Some, None, Result, Ok, Err, length, refl, sym, ap, subst, ◌∙◌, arith}
+use Rattle.std.proofs.Common.{◌≡◌, ◌<◌, ◌≤◌, ℕ, List, [], ◌∷◌, None, Result, Ok, Err, length, refl, sym, ap, subst, ◌∙◌, arith}
 use Rattle.flux_grammar.specs.declared.lexeme.Piece.{Piece}
 use Rattle.flux_grammar.specs.declared.token.Token.{Token}
 use Rattle.flux_grammar.specs.States.{State, state, left, head}
 use Rattle.flux_grammar.specs.Grammar.{Part, Value}
 use Rattle.flux_grammar.specs.Lexemes.{ArePieces}
-use Rattle.flux_grammar.specs.Machine.{Prog, done, call, Outcome, accepts, faults, Runs, runs-done, runs-over}
+use Rattle.flux_grammar.specs.Machine.{done, call, accepts, faults, runs-done, runs-over}
 use Rattle.flux_grammar.specs.Readings.{start_of}
 use Rattle.flux_grammar.proofs.Final.{Faithful, accepted, faulted}
 use Rattle.flux_grammar.proofs.Follow.{Ends}

@@ -2,10 +2,12 @@
 use Rattle.std.specs.Prelude.{ℕ, Option, Some, None}
 use Rattle.flux_atom.specs.declared.atom.Atom.{Atom}
 use Rattle.flux_grammar.specs.declared.lexeme.Lexeme.{Lexeme}
-use Rattle.flux_grammar.specs.declared.lexeme.Lexeme.TheVariants.{Reserved, Sign, Word, Soft, Quoted, Var, Literal}
+use Rattle.flux_grammar.specs.declared.lexeme.Lexeme.TheVariants.{Sign, Word, Soft, Quoted, Var, Literal}
 use Rattle.flux_grammar.specs.declared.lexeme.Sign.TheVariants as sign
 use Rattle.flux_grammar.specs.declared.lexeme.Soft.{Soft as SoftWord}
 use Rattle.flux_grammar.specs.declared.lexeme.Soft.TheVariants as soft
+use Rattle.flux_grammar.specs.declared.tree.Repetition.{Repetition}
+use Rattle.flux_grammar.specs.declared.tree.Repetition.TheVariants.{Star, Plus, Optional}
 use Rattle.flux_grammar.specs.declared.tree.TestText.{TestText}
 use Rattle.flux_grammar.specs.declared.tree.TestText.TheVariants as te
 use Rattle.flux_grammar.specs.States.{State, state}
@@ -60,6 +62,13 @@ next_typed (Some (Soft soft.StringWord n)) = Some (te.OfText, n)
 next_typed (Some (Soft soft.BoolWord n)) = Some (te.OfBool, n)
 next_typed (Some (Soft soft.IntWord n)) = Some (te.OfInt, n)
 next_typed _ = None
+
+-- what the next mark behind a type says
+abbrev pub next_repetition : Option Lexeme → Option Repetition
+next_repetition (Some (Sign sign.Star)) = Some Star
+next_repetition (Some (Sign sign.Plus)) = Some Plus
+next_repetition (Some (Sign sign.Question)) = Some Optional
+next_repetition _ = None
 
 -- the atom of a literal
 abbrev pub next_literal : Option Lexeme → Option Atom

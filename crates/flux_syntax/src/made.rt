@@ -1,14 +1,14 @@
-// Queries and types over their parts, which are boxed.
+// Queries over their parts, which are boxed.
 ghost use Rattle.std.specs.Prelude.{◌≡◌, ◌∷◌};
 ghost use Rattle.flux_grammar.specs.declared.tree.Expr.TheVariants as ex;
-ghost use Rattle.flux_grammar.specs.Grammar.{spanning, list_of};
+ghost use Rattle.flux_grammar.specs.Grammar.{spanning, list_of, stepped_of};
 ghost use Rattle.flux_grammar.specs.Spans.{expr_span};
 ghost use Rattle.flux_syntax.specs.Parses.{Made};
 
 use crate::reader::Fault;
 use flux_atom::{Boxed, Items};
 use flux_calculus::Span;
-use flux_grammar::{Expr, Path, Step, TestText};
+use flux_grammar::{Expr, Path, QueryStep, Step};
 use std::alloc::Global;
 
 /// The first item and the others, in one list.
@@ -68,28 +68,18 @@ pub(crate) fn made_less(alloc: Global, left: Expr, right: Expr, to: u32) -> Resu
     ))
 }
 
-pub(crate) fn made_down(alloc: Global, inner: Expr, test: TestText, to: u32) -> Result<Expr, Fault>
-    ensures { Made (ex.Down inner test (spanning (expr_span inner).from to)) result }
-{
-    let from = inner.span().from;
-    Ok(Expr::Down(Boxed::new(alloc, inner)?, test, Span { from, to }))
-}
-
-pub(crate) fn made_child(alloc: Global, inner: Expr, to: u32) -> Result<Expr, Fault>
-    ensures { Made (ex.Child inner (spanning (expr_span inner).from to)) result }
-{
-    let from = inner.span().from;
-    Ok(Expr::Child(Boxed::new(alloc, inner)?, Span { from, to }))
-}
-
-pub(crate) fn made_filter(
+pub(crate) fn made_stepped(
     alloc: Global,
     inner: Expr,
-    test: TestText,
+    steps: Items<QueryStep>,
     to: u32,
 ) -> Result<Expr, Fault>
-    ensures { Made (ex.Filter inner test (spanning (expr_span inner).from to)) result }
+    ensures { Made (stepped_of inner steps to) result }
 {
+    if steps.is_empty() {
+        return Ok(inner);
+    }
     let from = inner.span().from;
-    Ok(Expr::Filter(Boxed::new(alloc, inner)?, test, Span { from, to }))
+    let inner = Boxed::new(alloc, inner)?;
+    Ok(Expr::Stepped(inner, steps, Span { from, to }))
 }

@@ -7,13 +7,13 @@ ghost use Rattle.flux_grammar.specs.Grammar.{expr, items, item, compared, post, 
 ghost use Rattle.flux_grammar.specs.States.{head};
 ghost use Rattle.flux_syntax.specs.At.{at, next_literal, IsOther};
 ghost use Rattle.flux_syntax.specs.Parses.{Parses, Gets};
-ghost use Rattle.flux_syntax.specs.Steps.{slash_step, filter_step};
+ghost use Rattle.flux_syntax.specs.Steps.{slash_step};
 
-use crate::made::{made_child, made_down, made_filter, made_less, made_list, made_same};
+use crate::made::{made_less, made_list, made_same, made_stepped};
 use crate::reader::{Fault, LIMIT, Reader};
 use flux_atom::{Atom, Boxed, Items, Name, copy};
 use flux_calculus::Span;
-use flux_grammar::{Expr, Keyword, Lexeme, Sign, TestText};
+use flux_grammar::{Expr, Keyword, Lexeme, QueryStep, Sign, TestText};
 use std::alloc::{AllocError, Global};
 
 // The atom, where the next piece is a literal.
@@ -202,66 +202,63 @@ impl<'a> Reader<'a> {
         ensures shorter { length self.new.left.now ≤ length self.old.left.now }
     {
         let first = self.primary(depth)?;
-        self.steps(first)
+        let steps = self.steps(first.span().from)?;
+        made_stepped(self.alloc, first, steps, self.end)
     }
 
-    fn steps(&mut self, first: Expr) -> Result<Expr, Fault>
-        ensures parses { Parses (steps first) (at self.old) (at self.new) result }
+    // Reads the steps behind a query that begins there.
+    fn steps(&mut self, from: u32) -> Result<Items<QueryStep>, Fault>
+        ensures parses { Parses (steps from) (at self.old) (at self.new) result }
         ensures shorter { length self.new.left.now ≤ length self.old.left.now }
     {
-        let mut whole = first;
+        let mut all = Items::new(self.alloc);
         loop {
             if self.is_at(Sign::Slash) {
-                whole = self.slash_step(whole)?;
+                let step = self.slash_step(from)?;
+                all.push(step)?;
             } else if self.is_at(Sign::DoubleColon) {
-                whole = self.filter_step(whole)?;
+                self.advance();
+                let (test, _) = self.test()?;
+                let to = self.end;
+                all.push(QueryStep::Filter(test, Span { from, to }))?;
             } else {
-                return Ok(whole);
+                return Ok(all);
             }
         }
     }
 
-    fn slash_step(&mut self, inner: Expr) -> Result<Expr, Fault>
+    fn slash_step(&mut self, from: u32) -> Result<QueryStep, Fault>
         requires open { head (at self.old) ≡ Some (Signed Sign.Slash) }
         requires more { 0 < length self.old.left.now }
-        ensures parses { Gets (slash_step inner) (at self.old) (at self.new) result }
+        ensures parses { Gets (slash_step from) (at self.old) (at self.new) result }
         ensures shorter { length self.new.left.now < length self.old.left.now }
     {
         self.advance();
         match self.next_child() {
-            Some(name) => self.child_step(inner, name),
+            Some(name) => self.child_step(from, name),
             None => {
                 let (test, _) = self.other_test()?;
-                made_down(self.alloc, inner, test, self.end)
+                let to = self.end;
+                Ok(QueryStep::Down(test, Span { from, to }))
             }
         }
     }
 
-    fn filter_step(&mut self, inner: Expr) -> Result<Expr, Fault>
-        requires open { head (at self.old) ≡ Some (Signed Sign.DoubleColon) }
-        requires more { 0 < length self.old.left.now }
-        ensures parses { Gets (filter_step inner) (at self.old) (at self.new) result }
-        ensures shorter { length self.new.left.now < length self.old.left.now }
-    {
-        self.advance();
-        let (test, _) = self.test()?;
-        made_filter(self.alloc, inner, test, self.end)
-    }
-
     // The word `child` alone is a label, and with parentheses behind it stands for all children.
-    fn child_step(&mut self, inner: Expr, name: Name) -> Result<Expr, Fault>
+    fn child_step(&mut self, from: u32, name: Name) -> Result<QueryStep, Fault>
         requires child { head (at self.old) ≡ Some (Softly ChildWord name) }
         requires more { 0 < length self.old.left.now }
-        ensures parses { Parses (qstep inner) (at self.old) (at self.new) result }
+        ensures parses { Parses (qstep from) (at self.old) (at self.new) result }
         ensures shorter { length self.new.left.now ≤ length self.old.left.now }
     {
         self.advance();
         if !self.is_at(Sign::Open) {
-            return made_down(self.alloc, inner, TestText::Label(name), self.end);
+            let to = self.end;
+            return Ok(QueryStep::Down(TestText::Label(name), Span { from, to }));
         }
         self.advance();
         let to = self.take(Sign::Close)?.to;
-        made_child(self.alloc, inner, to)
+        Ok(QueryStep::Child(Span { from, to }))
     }
 
     #[cycle(queries)]

@@ -111,7 +111,8 @@ impl<'a> Reader<'a> {
     /// Takes the next piece, and answers where it stood.
     pub(crate) fn advance(&mut self) -> Span
         requires { 0 < length self.old.left.now }
-        ensures took { (l : Lexeme) → head (at self.old) ≡ Some l → Takes l (at self.old) (piece l result) (at self.new) }
+        ensures took { (l : Lexeme) → head (at self.old) ≡ Some l →
+            Takes l (at self.old) (piece l result) (at self.new) }
         ensures shorter { length self.new.left.now < length self.old.left.now }
     {
         let span = self.left[0].span;

@@ -53,7 +53,7 @@ fn read_script(rt: &impl Abort, alloc: Global, text: &str) -> Result<Script, Syn
 }
 
 // What stands here for parts of the text that `Debug` writes.
-const SHORT: [(&str, &str); 17] = [
+const SHORT: [(&str, &str); 18] = [
     ("Items { items: ", ""),
     ("Boxed { inner: ", ""),
     ("Path { steps: ", ""),
@@ -61,6 +61,7 @@ const SHORT: [(&str, &str); 17] = [
     ("Span { from: ", ""),
     (", to: ", "-"),
     ("Step { var: ", "Step "),
+    ("Mark { repetition: ", "Mark "),
     (", test: ", ", "),
     (", filter: ", ", "),
     (", span: ", ", "),
@@ -125,10 +126,13 @@ fn types(rt: HostRuntime) -> Result<(), Fail> {
         ("child", "Named(n0, 0-5)"),
         ("child[]", "Elem(n0, None, 0-7)"),
         (" A ", "Named(n0, 1-2)"),
-        ("a[]*", "Star(Elem(n0, None, 0-3), 0-4)"),
-        ("A+", "Plus(Named(n0, 0-1), 0-2)"),
-        ("A ?", "Opt(Named(n0, 0-1), 0-3)"),
-        ("A*+?", "Opt(Plus(Star(Named(n0, 0-1), 0-2), 0-3), 0-4)"),
+        ("a[]*", "Marked(Elem(n0, None, 0-3), [Mark Star, 0-4], 0-4)"),
+        ("A+", "Marked(Named(n0, 0-1), [Mark Plus, 0-2], 0-2)"),
+        ("A ?", "Marked(Named(n0, 0-1), [Mark Optional, 0-3], 0-3)"),
+        (
+            "A*+?",
+            "Marked(Named(n0, 0-1), [Mark Star, 0-2, Mark Plus, 0-3, Mark Optional, 0-4], 0-4)",
+        ),
         (
             "A,B, C",
             "Seq([Named(n0, 0-1), Named(n1, 2-3), Named(n2, 5-6)], 0-6)",
@@ -139,8 +143,8 @@ fn types(rt: HostRuntime) -> Result<(), Fail> {
         ),
         (
             "A,B*|C?,(A|B)",
-            "Alt([Seq([Named(n0, 0-1), Star(Named(n1, 2-3), 2-4)], 0-4), \
-             Seq([Opt(Named(n2, 5-6), 5-7), \
+            "Alt([Seq([Named(n0, 0-1), Marked(Named(n1, 2-3), [Mark Star, 2-4], 2-4)], 0-4), \
+             Seq([Marked(Named(n2, 5-6), [Mark Optional, 5-7], 5-7), \
              Group(Some(Alt([Named(n0, 9-10), Named(n1, 11-12)], 9-12)), 8-13)], 5-13)], 0-13)",
         ),
         ("", "place 0"),
@@ -218,31 +222,79 @@ fn queries(rt: HostRuntime) -> Result<(), Fail> {
             "Same(Group(Some(Same(Lit(Int(1), 1-2), Lit(Int(2), 3-4), 1-4)), 0-5), \
              Lit(Bool(true), 6-10), 0-10)",
         ),
-        ("$x/a", "Down(Var(n0, 0-2), Label(n1), 0-4)"),
-        ("$x/*", "Down(Var(n0, 0-2), AnyElement, 0-4)"),
-        ("$x/'for'", "Down(Var(n0, 0-2), Label(n1), 0-8)"),
-        ("$x/child()", "Child(Var(n0, 0-2), 0-10)"),
+        ("$x/a", "Stepped(Var(n0, 0-2), [Down(Label(n1), 0-4)], 0-4)"),
+        (
+            "$x/*",
+            "Stepped(Var(n0, 0-2), [Down(AnyElement, 0-4)], 0-4)",
+        ),
+        (
+            "$x/'for'",
+            "Stepped(Var(n0, 0-2), [Down(Label(n1), 0-8)], 0-8)",
+        ),
+        ("$x/child()", "Stepped(Var(n0, 0-2), [Child(0-10)], 0-10)"),
         (
             "$x/child()/a",
-            "Down(Child(Var(n0, 0-2), 0-10), Label(n2), 0-12)",
+            "Stepped(Var(n0, 0-2), [Child(0-10), Down(Label(n2), 0-12)], 0-12)",
         ),
-        ("$x/child", "Down(Var(n0, 0-2), Label(n1), 0-8)"),
-        ("$x/any", "Down(Var(n0, 0-2), Label(n1), 0-6)"),
-        ("$x/string()", "Down(Var(n0, 0-2), OfText, 0-11)"),
-        ("$x/string", "Down(Var(n0, 0-2), Label(n1), 0-9)"),
-        ("$x/bool()", "Down(Var(n0, 0-2), OfBool, 0-9)"),
-        ("$x/int( )", "Down(Var(n0, 0-2), OfInt, 0-9)"),
-        ("$x::a", "Filter(Var(n0, 0-2), Label(n1), 0-5)"),
-        ("$x::*", "Filter(Var(n0, 0-2), AnyElement, 0-5)"),
-        ("$x::child", "Filter(Var(n0, 0-2), Label(n1), 0-9)"),
-        ("$x::any", "Filter(Var(n0, 0-2), Label(n1), 0-7)"),
-        ("$x::string", "Filter(Var(n0, 0-2), Label(n1), 0-10)"),
-        ("$x::string()", "Filter(Var(n0, 0-2), OfText, 0-12)"),
-        ("$x::bool()", "Filter(Var(n0, 0-2), OfBool, 0-10)"),
-        ("$x::int()", "Filter(Var(n0, 0-2), OfInt, 0-9)"),
+        (
+            "$x/child",
+            "Stepped(Var(n0, 0-2), [Down(Label(n1), 0-8)], 0-8)",
+        ),
+        (
+            "$x/any",
+            "Stepped(Var(n0, 0-2), [Down(Label(n1), 0-6)], 0-6)",
+        ),
+        (
+            "$x/string()",
+            "Stepped(Var(n0, 0-2), [Down(OfText, 0-11)], 0-11)",
+        ),
+        (
+            "$x/string",
+            "Stepped(Var(n0, 0-2), [Down(Label(n1), 0-9)], 0-9)",
+        ),
+        (
+            "$x/bool()",
+            "Stepped(Var(n0, 0-2), [Down(OfBool, 0-9)], 0-9)",
+        ),
+        (
+            "$x/int( )",
+            "Stepped(Var(n0, 0-2), [Down(OfInt, 0-9)], 0-9)",
+        ),
+        (
+            "$x::a",
+            "Stepped(Var(n0, 0-2), [Filter(Label(n1), 0-5)], 0-5)",
+        ),
+        (
+            "$x::*",
+            "Stepped(Var(n0, 0-2), [Filter(AnyElement, 0-5)], 0-5)",
+        ),
+        (
+            "$x::child",
+            "Stepped(Var(n0, 0-2), [Filter(Label(n1), 0-9)], 0-9)",
+        ),
+        (
+            "$x::any",
+            "Stepped(Var(n0, 0-2), [Filter(Label(n1), 0-7)], 0-7)",
+        ),
+        (
+            "$x::string",
+            "Stepped(Var(n0, 0-2), [Filter(Label(n1), 0-10)], 0-10)",
+        ),
+        (
+            "$x::string()",
+            "Stepped(Var(n0, 0-2), [Filter(OfText, 0-12)], 0-12)",
+        ),
+        (
+            "$x::bool()",
+            "Stepped(Var(n0, 0-2), [Filter(OfBool, 0-10)], 0-10)",
+        ),
+        (
+            "$x::int()",
+            "Stepped(Var(n0, 0-2), [Filter(OfInt, 0-9)], 0-9)",
+        ),
         (
             "a[]::b/c",
-            "Down(Filter(Elem(n0, None, 0-3), Label(n1), 0-6), Label(n2), 0-8)",
+            "Stepped(Elem(n0, None, 0-3), [Filter(Label(n1), 0-6), Down(Label(n2), 0-8)], 0-8)",
         ),
     ] {
         let told = told(&rt, alloc, Kind::Query, text)?;
@@ -483,7 +535,7 @@ fn scripts(rt: HostRuntime) -> Result<(), Fail> {
         (
             "PROCEDURE 'IF'($x:A*,$y:()) : A => A {SKIP} INPUT A DO SKIP",
             "Script types: [], procs: [ProcDef name: n0, at: 10-14, \
-             params: [ParamDef var: n1, at: 15-17, ty: Star(Named(n2, 18-19), 18-20), \
+             params: [ParamDef var: n1, at: 15-17, ty: Marked(Named(n2, 18-19), [Mark Star, 18-20], 18-20), \
              ParamDef var: n3, at: 21-23, ty: Group(None, 24-26)], \
              focus: Named(n2, 30-31), result: Named(n2, 35-36), body: [Skip(38-42)]], \
              input: Named(n2, 50-51), output: None, body: [Skip(55-59)]",
@@ -656,10 +708,8 @@ fn levels(rt: HostRuntime) -> Result<(), Fail> {
 fn parts_of_type(tree: &TypeText) -> usize {
     match tree {
         TypeText::Alt(parts, _) | TypeText::Seq(parts, _) => parts.len(),
-        TypeText::Star(_, _)
-        | TypeText::Plus(_, _)
-        | TypeText::Opt(_, _)
-        | TypeText::Group(_, _)
+        TypeText::Marked(_, marks, _) => marks.len(),
+        TypeText::Group(_, _)
         | TypeText::Elem(_, _, _)
         | TypeText::AnyElem(_, _)
         | TypeText::Kind(_, _)
@@ -670,14 +720,12 @@ fn parts_of_type(tree: &TypeText) -> usize {
 fn parts_of_query(tree: &Expr) -> usize {
     match tree {
         Expr::List(parts, _) => parts.len(),
+        Expr::Stepped(_, steps, _) => steps.len(),
         Expr::For(_, _, _, _)
         | Expr::Let(_, _, _, _)
         | Expr::If(_, _, _, _)
         | Expr::Same(_, _, _)
         | Expr::Less(_, _, _)
-        | Expr::Down(_, _, _)
-        | Expr::Child(_, _)
-        | Expr::Filter(_, _, _)
         | Expr::Group(_, _)
         | Expr::Lit(_, _)
         | Expr::Var(_, _)
@@ -707,7 +755,10 @@ fn long_texts(rt: HostRuntime) -> Result<(), Fail> {
     for (kind, before, part) in [
         (Kind::Type, "a[]", ",a[]"),
         (Kind::Type, "A", "|A"),
+        (Kind::Type, "A+", "*"),
         (Kind::Query, "1", ",1"),
+        (Kind::Query, "$x/b", "/a"),
+        (Kind::Query, "$x/b", "::a"),
         (Kind::Script, "INPUT a[] DO DELETE a", "/a"),
         (Kind::Script, "INPUT a[] DO SKIP", ";SKIP"),
     ] {

@@ -1,16 +1,15 @@
 // Types.
 ghost use Rattle.std.specs.Prelude.{◌≡◌, ◌≤◌, ◌<◌, ◌+◌, Some, IsSome, length};
 ghost use Rattle.flux_grammar.specs.declared.lexeme.Lexeme.TheVariants.{Sign as Signed, Word, Quoted, Soft as Softly};
-ghost use Rattle.flux_grammar.specs.Grammar.{type, alts, tseq, seqs, tpost, marks, tatom, labelled, content, alt_of, seq_of};
+ghost use Rattle.flux_grammar.specs.Grammar.{type, alts, tseq, seqs, tpost, marks, tatom, labelled, content, alt_of, seq_of, marked_of};
 ghost use Rattle.flux_grammar.specs.States.{head};
-ghost use Rattle.flux_syntax.specs.At.{at};
-ghost use Rattle.flux_syntax.specs.Marks.{next_mark, marked};
+ghost use Rattle.flux_syntax.specs.At.{at, next_repetition};
 ghost use Rattle.flux_syntax.specs.Parses.{Parses, Made};
 
 use crate::reader::{Fault, LIMIT, Reader};
 use flux_atom::{AtomKind, Boxed, Items, Name};
 use flux_calculus::Span;
-use flux_grammar::{Sign, Soft, TypeText};
+use flux_grammar::{Mark, Repetition, Sign, Soft, TypeText};
 use std::alloc::Global;
 
 fn made_alt(
@@ -49,24 +48,20 @@ fn made_seq(
     Ok(TypeText::Seq(all, Span { from, to }))
 }
 
-// A mark behind a type.
-#[derive(Clone, Copy, Debug, PartialEq, Eq)]
-enum Mark {
-    Star,
-    Plus,
-    Question,
-}
-
-impl Mark {
-    fn over(self, inner: Boxed<TypeText>, span: Span) -> TypeText
-        ensures { result ≡ marked self inner span }
-    {
-        match self {
-            Mark::Star => TypeText::Star(inner, span),
-            Mark::Plus => TypeText::Plus(inner, span),
-            Mark::Question => TypeText::Opt(inner, span),
-        }
+fn made_marked(
+    alloc: Global,
+    inner: TypeText,
+    marks: Items<Mark>,
+    to: u32,
+) -> Result<TypeText, Fault>
+    ensures { Made (marked_of inner marks to) result }
+{
+    if marks.is_empty() {
+        return Ok(inner);
     }
+    let from = inner.span().from;
+    let inner = Boxed::new(alloc, inner)?;
+    Ok(TypeText::Marked(inner, marks, Span { from, to }))
 }
 
 impl<'a> Reader<'a> {
@@ -134,7 +129,8 @@ impl<'a> Reader<'a> {
         ensures shorter { length self.new.left.now ≤ length self.old.left.now }
     {
         let inner = self.atom(depth)?;
-        self.marked(inner)
+        let marks = self.marks(inner.span().from)?;
+        made_marked(self.alloc, inner, marks, self.end)
     }
 
     /// Reads a type that lies inside no other, into a box.
@@ -146,37 +142,34 @@ impl<'a> Reader<'a> {
         Ok(Boxed::new(self.alloc, tree)?)
     }
 
-    fn mark(&self) -> Option<Mark>
-        ensures mark { result ≡ next_mark (head (at self.now)) }
+    fn repetition(&self) -> Option<Repetition>
+        ensures next { result ≡ next_repetition (head (at self.now)) }
         ensures more { IsSome result → 0 < length self.now.left.now }
     {
         if self.is_at(Sign::Star) {
-            return Some(Mark::Star);
+            return Some(Repetition::Star);
         }
         if self.is_at(Sign::Plus) {
-            return Some(Mark::Plus);
+            return Some(Repetition::Plus);
         }
         if self.is_at(Sign::Question) {
-            return Some(Mark::Question);
+            return Some(Repetition::Optional);
         }
         None
     }
 
-    fn marked(&mut self, inner: TypeText) -> Result<TypeText, Fault>
-        ensures parses { Parses (marks inner) (at self.old) (at self.new) result }
+    // Reads the marks behind a type that begins there.
+    fn marks(&mut self, from: u32) -> Result<Items<Mark>, Fault>
+        ensures parses { Parses (marks from) (at self.old) (at self.new) result }
         ensures shorter { length self.new.left.now ≤ length self.old.left.now }
     {
-        let mut whole = inner;
-        while let Some(mark) = self.mark() {
+        let mut all = Items::new(self.alloc);
+        while let Some(repetition) = self.repetition() {
             let to = self.advance().to;
-            let span = Span {
-                from: whole.span().from,
-                to,
-            };
-            let inner = Boxed::new(self.alloc, whole)?;
-            whole = mark.over(inner, span);
+            let span = Span { from, to };
+            all.push(Mark { repetition, span })?;
         }
-        Ok(whole)
+        Ok(all)
     }
 
     #[cycle(types)]

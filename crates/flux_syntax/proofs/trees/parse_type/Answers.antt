@@ -1,7 +1,7 @@
 use Rattle.std.proofs.Common.{subst, sym, arith}
-use Rattle.flux_grammar.specs.Grammar.{script, type, expr}
+use Rattle.flux_grammar.specs.Grammar.{type}
 use Rattle.flux_grammar.specs.Lexemes.{ArePieces}
-use Rattle.flux_grammar.proofs.Final.{same_script, same_type, same_query}
+use Rattle.flux_grammar.proofs.Final.{same_type}
 use Rattle.flux_syntax.specs.At.{at}
 use Rattle.flux_syntax.proofs.Whole.{is_tree, is_fault}
 use Rattle.flux_syntax.proofs.trees.parse_type.Goals as goal

@@ -1,18 +1,15 @@
-use Rattle.std.proofs.Common.{◌≡◌, ◌+◌, ◌++◌, List, [], Some, None, Ok, Err, refl, sym, ap, ◌∙◌, arith}
+use Rattle.std.proofs.Common.{Some, Ok, Err, refl, sym, ap, ◌∙◌, arith}
 use Rattle.std.proofs.lemmas.Result.{err_from_is_err_and}
 use Rattle.flux_grammar.specs.declared.lexeme.Keyword.TheVariants as key
-use Rattle.flux_grammar.specs.declared.lexeme.Lexeme.TheVariants.{Reserved, Sign, Var, Literal, Soft}
+use Rattle.flux_grammar.specs.declared.lexeme.Lexeme.TheVariants.{Reserved, Sign, Var, Literal}
 use Rattle.flux_grammar.specs.declared.lexeme.Sign.TheVariants as sign
-use Rattle.flux_grammar.specs.declared.lexeme.Soft.TheVariants as soft
-use Rattle.flux_grammar.specs.Grammar.{expr, items, item, compared, post, steps, qstep, childed, prim, within}
+use Rattle.flux_grammar.specs.Grammar.{expr, items, item, compared, post, prim, within}
 use Rattle.flux_grammar.specs.States.{head}
 use Rattle.flux_grammar.specs.Machine.{call}
 use Rattle.flux_syntax.specs.At.{at}
-use Rattle.flux_syntax.specs.Steps.{slash_step, filter_step}
 use Rattle.flux_syntax.proofs.Chosen.{is_here, not_here}
-use Rattle.flux_syntax.proofs.LabelChoices.{child_here}
-use Rattle.flux_syntax.proofs.Leads.{here, passes, same_tree, into, into_at, took, given, given_by, marked, begun, turned, gives, gives_as, gives_all, makes, ends, part_stops, piece_stops, reading_stops}
-use Rattle.flux_syntax.proofs.QueryChoices.{item_deep, var_here, literal_here, no_items, plain_item, uncompared, no_steps, plain_step, child_label, is_other, element_here, some_within}
+use Rattle.flux_syntax.proofs.Leads.{deep_here, here, passes, same_tree, into, into_at, took, given, past_mark, begun, turned, gives, gives_as, gives_all, makes, ends, part_stops, piece_stops}
+use Rattle.flux_syntax.proofs.QueryChoices.{var_here, literal_here, no_items, plain_item, uncompared, steps_from, element_here, some_within}
 use Rattle.flux_syntax.proofs.reader.Reader.+queries.Goals as goal
 
 pub compared-returns-in_err-right-clause-parses : goal.compared-returns-in_err-right-clause-parses
@@ -21,7 +18,7 @@ compared-returns-in_err-right-clause-parses t c =
 
 pub compared-returns-then-is_at-clause-parses : goal.compared-returns-then-is_at-clause-parses
 compared-returns-then-is_at-clause-parses t c =
-    makes c.made_same.result c.made_same.ensures (marked (given (took (into_at (here (call (compared c.args.depth c.args.left)) (at c.args.self.now)) tt (is_here c.is_at.ensures.here c.if-is_at.true) (λ k. refl)) (c.advance.ensures.took (Sign sign.Equal) (is_here c.is_at.ensures.here c.if-is_at.true))) c.in_ok-right.ensures.parses))
+    makes c.made_same.result c.made_same.ensures (past_mark (given (took (into_at (here (call (compared c.args.depth c.args.left)) (at c.args.self.now)) tt (is_here c.is_at.ensures.here c.if-is_at.true) (λ k. refl)) (c.advance.ensures.took (Sign sign.Equal) (is_here c.is_at.ensures.here c.if-is_at.true))) c.in_ok-right.ensures.parses))
 
 pub compared-returns-in_err-right-2-clause-parses : goal.compared-returns-in_err-right-2-clause-parses
 compared-returns-in_err-right-2-clause-parses t c =
@@ -29,7 +26,7 @@ compared-returns-in_err-right-2-clause-parses t c =
 
 pub compared-returns-then-is_at-2-clause-parses : goal.compared-returns-then-is_at-2-clause-parses
 compared-returns-then-is_at-2-clause-parses t c =
-    makes c.made_less.result c.made_less.ensures (marked (given (took (into_at (here (call (compared c.args.depth c.args.left)) (at c.args.self.now)) tt (is_here c.is_at-2.ensures.here c.if-is_at-2.true) (λ k. refl)) (c.advance-then-is_at-2.ensures.took (Sign sign.Less) (is_here c.is_at-2.ensures.here c.if-is_at-2.true))) c.in_ok-right-2.ensures.parses))
+    makes c.made_less.result c.made_less.ensures (past_mark (given (took (into_at (here (call (compared c.args.depth c.args.left)) (at c.args.self.now)) tt (is_here c.is_at-2.ensures.here c.if-is_at-2.true) (λ k. refl)) (c.advance-then-is_at-2.ensures.took (Sign sign.Less) (is_here c.is_at-2.ensures.here c.if-is_at-2.true))) c.in_ok-right-2.ensures.parses))
 
 pub compared-returns-clause-parses : goal.compared-returns-clause-parses
 compared-returns-clause-parses t c =
@@ -57,7 +54,7 @@ for_item-returns-in_err-body-clause-parses t c =
 
 pub for_item-returns-clause-parses : goal.for_item-returns-clause-parses
 for_item-returns-clause-parses t c =
-    gives (marked (given (took (given (took (given (took (into_at (here (call (item c.args.depth)) (at c.args.self.now)) (λ _. c.requires.depth) c.requires.open (λ k. refl)) (c.advance-word.ensures.took (Reserved key.QueryFor) c.requires.open)) c.in_ok-name.ensures.parses) c.in_ok-take_word.ensures.took) c.in_ok-over.ensures.parses) c.in_ok-take_word-2.ensures.took) c.in_ok-body.ensures.parses))
+    gives (past_mark (given (took (given (took (given (took (into_at (here (call (item c.args.depth)) (at c.args.self.now)) (λ _. c.requires.depth) c.requires.open (λ k. refl)) (c.advance-word.ensures.took (Reserved key.QueryFor) c.requires.open)) c.in_ok-name.ensures.parses) c.in_ok-take_word.ensures.took) c.in_ok-over.ensures.parses) c.in_ok-take_word-2.ensures.took) c.in_ok-body.ensures.parses))
 
 pub if_item-returns-in_err-test-clause-parses : goal.if_item-returns-in_err-test-clause-parses
 if_item-returns-in_err-test-clause-parses t c =
@@ -81,11 +78,11 @@ if_item-returns-in_err-no-clause-parses t c =
 
 pub if_item-returns-clause-parses : goal.if_item-returns-clause-parses
 if_item-returns-clause-parses t c =
-    gives (marked (given (took (given (took (given (took (into_at (here (call (item c.args.depth)) (at c.args.self.now)) (λ _. c.requires.depth) c.requires.open (λ k. refl)) (c.advance-word.ensures.took (Reserved key.QueryIf) c.requires.open)) c.in_ok-test.ensures.parses) c.in_ok-take_word.ensures.took) c.in_ok-yes.ensures.parses) c.in_ok-take_word-2.ensures.took) c.in_ok-no.ensures.parses))
+    gives (past_mark (given (took (given (took (given (took (into_at (here (call (item c.args.depth)) (at c.args.self.now)) (λ _. c.requires.depth) c.requires.open (λ k. refl)) (c.advance-word.ensures.took (Reserved key.QueryIf) c.requires.open)) c.in_ok-test.ensures.parses) c.in_ok-take_word.ensures.took) c.in_ok-yes.ensures.parses) c.in_ok-take_word-2.ensures.took) c.in_ok-no.ensures.parses))
 
 pub item-returns-then-depth-ge-LIMIT-clause-parses : goal.item-returns-then-depth-ge-LIMIT-clause-parses
 item-returns-then-depth-ge-LIMIT-clause-parses t c =
-    item_deep c.args.depth (at c.args.self.now) c.if-depth-ge-LIMIT.true
+    deep_here (item c.args.depth) (at c.args.self.now) c.args.depth c.if-depth-ge-LIMIT.true (λ free. free tt)
 
 pub item-returns-in_err-left-clause-parses : goal.item-returns-in_err-left-clause-parses
 item-returns-in_err-left-clause-parses t c =
@@ -137,15 +134,19 @@ let_item-returns-in_err-body-clause-parses t c =
 
 pub let_item-returns-clause-parses : goal.let_item-returns-clause-parses
 let_item-returns-clause-parses t c =
-    gives (marked (given (took (given (took (given (took (into_at (here (call (item c.args.depth)) (at c.args.self.now)) (λ _. c.requires.depth) c.requires.open (λ k. refl)) (c.advance-word.ensures.took (Reserved key.QueryLet) c.requires.open)) c.in_ok-name.ensures.parses) c.in_ok-take.ensures.took) c.in_ok-bound.ensures.parses) c.in_ok-take_word.ensures.took) c.in_ok-body.ensures.parses))
+    gives (past_mark (given (took (given (took (given (took (into_at (here (call (item c.args.depth)) (at c.args.self.now)) (λ _. c.requires.depth) c.requires.open (λ k. refl)) (c.advance-word.ensures.took (Reserved key.QueryLet) c.requires.open)) c.in_ok-name.ensures.parses) c.in_ok-take.ensures.took) c.in_ok-bound.ensures.parses) c.in_ok-take_word.ensures.took) c.in_ok-body.ensures.parses))
 
 pub post-returns-in_err-first-clause-parses : goal.post-returns-in_err-first-clause-parses
 post-returns-in_err-first-clause-parses t c =
     part_stops (at c.primary.new.self) c.from_residual.result c.in_err-first.field-0.0 (into (here (call (post c.args.depth)) (at c.args.self.now)) tt (λ k. refl)) (err_from_is_err_and _ c.from_residual.ensures.1) c.in_err-first.ensures.parses
 
+pub post-returns-in_err-steps-clause-parses : goal.post-returns-in_err-steps-clause-parses
+post-returns-in_err-steps-clause-parses t c =
+    part_stops (at c.steps.new.self) c.from_residual-in_err-steps.result c.in_err-steps.field-0.0 (given (into (here (call (post c.args.depth)) (at c.args.self.now)) tt (λ k. refl)) c.in_ok-first.ensures.parses) (err_from_is_err_and _ c.from_residual-in_err-steps.ensures.1) (steps_from (at c.primary.new.self) (at c.steps.new.self) (Err c.in_err-steps.field-0.0) (ap (λ at. at.from) c.span.ensures) c.in_err-steps.ensures.parses)
+
 pub post-returns-clause-parses : goal.post-returns-clause-parses
 post-returns-clause-parses t c =
-    ends (at c.steps.new.self) c.steps.result (given (into (here (call (post c.args.depth)) (at c.args.self.now)) tt (λ k. refl)) c.in_ok-first.ensures.parses) c.steps.ensures.parses
+    makes c.made_stepped.result c.made_stepped.ensures (past_mark (given (given (into (here (call (post c.args.depth)) (at c.args.self.now)) tt (λ k. refl)) c.in_ok-first.ensures.parses) (steps_from (at c.primary.new.self) (at c.steps.new.self) (Ok c.in_ok-steps.steps) (ap (λ at. at.from) c.span.ensures) c.in_ok-steps.ensures.parses)))
 
 pub primary-returns-in-Some-clause-parses : goal.primary-returns-in-Some-clause-parses
 primary-returns-in-Some-clause-parses t c =
@@ -165,7 +166,7 @@ query-returns-in_err-rest-clause-parses t c =
 
 pub query-returns-clause-parses : goal.query-returns-clause-parses
 query-returns-clause-parses t c =
-    makes c.made_list.result c.made_list.ensures (marked (given (given (into (here (call (expr c.args.depth)) (at c.args.self.now)) tt (λ k. refl)) c.in_ok-first.ensures.parses) c.in_ok-rest.ensures.parses))
+    makes c.made_list.result c.made_list.ensures (past_mark (given (given (into (here (call (expr c.args.depth)) (at c.args.self.now)) tt (λ k. refl)) c.in_ok-first.ensures.parses) c.in_ok-rest.ensures.parses))
 
 pub query_element-returns-in_err-name-clause-parses : goal.query_element-returns-in_err-name-clause-parses
 query_element-returns-in_err-name-clause-parses t c =

@@ -1,18 +1,15 @@
-use Rattle.std.proofs.Common.{◌≡◌, ◌+◌, ◌++◌, List, [], ◌∷◌, Some, None, Ok, Err, refl, sym, ap, ◌∙◌, arith}
+use Rattle.std.proofs.Common.{◌+◌, ◌++◌, [], ◌∷◌, refl, ap, ◌∙◌, arith}
 use Rattle.std.proofs.lemmas.Result.{err_from_is_err_and}
 use Rattle.flux_grammar.specs.declared.lexeme.Keyword.TheVariants as key
-use Rattle.flux_grammar.specs.declared.lexeme.Lexeme.TheVariants.{Reserved, Sign, Var}
+use Rattle.flux_grammar.specs.declared.lexeme.Lexeme.TheVariants.{Reserved, Sign}
 use Rattle.flux_grammar.specs.declared.lexeme.Sign.TheVariants as sign
-use Rattle.flux_grammar.specs.declared.tree.Stmt.TheVariants as st
-use Rattle.flux_grammar.specs.Grammar.{spanning, type, path, slashes, step, spot, filtered, expr, stmts, nexts, ending, stmt, guard, simple, inserting, placing, deleting, replacing, args, typedefs, typedef, procdefs, procdef, params, params_on, param, output, script}
-use Rattle.flux_grammar.specs.States.{head, end}
-use Rattle.flux_grammar.specs.Machine.{call, mark}
+use Rattle.flux_grammar.specs.Grammar.{stmts, nexts, stmt, simple}
+use Rattle.flux_grammar.specs.States.{head}
+use Rattle.flux_grammar.specs.Machine.{call}
 use Rattle.flux_syntax.specs.At.{at}
-use Rattle.flux_syntax.specs.Steps.{path_and_value, path_and_other}
 use Rattle.flux_syntax.proofs.Chosen.{is_here, not_here}
-use Rattle.flux_syntax.proofs.Leads.{here, passes, same_tree, into, into_at, took, given, given_by, marked, begun, turned, gives, gives_as, gives_all, makes, ends, part_stops, piece_stops, reading_stops, none_here}
-use Rattle.flux_syntax.proofs.QueryChoices.{var_here}
-use Rattle.flux_syntax.proofs.StatementChoices.{same_guard, with_bound, with_test, with_types, with_input, no_slashes, free_step, tested_spot, no_filter, stmt_deep, no_nexts, ended, goes_on, simple_stmt, unguarded, no_simple, no_inserting, no_placing, deletes_path, replaces_path, some_args, no_typedefs, no_procdefs, some_params, no_params_on, no_output}
+use Rattle.flux_syntax.proofs.Leads.{deep_here, here, passes, same_tree, into, into_at, took, given, past_mark, turned, gives, gives_as, gives_all, ends, part_stops, piece_stops, none_here}
+use Rattle.flux_syntax.proofs.StatementChoices.{same_guard, with_bound, with_test, no_nexts, ended, goes_on, simple_stmt, unguarded, no_simple}
 use Rattle.flux_syntax.proofs.reader.Reader.+statements.Goals as goal
 
 pub binding-returns-in_err-name-clause-parses : goal.binding-returns-in_err-name-clause-parses
@@ -37,7 +34,7 @@ binding-returns-in_err-body-clause-parses t c =
 
 pub binding-returns-clause-parses : goal.binding-returns-clause-parses
 binding-returns-clause-parses t c =
-    gives_as (with_bound c.in_ok-body.body c.into_inner.ensures) (marked (given (took (given (took (given (took (into_at (here (call (stmt c.args.depth)) (at c.args.self.now)) (λ _. c.requires.depth) c.requires.open (λ k. refl)) (c.advance-word.ensures.took (Reserved key.Let) c.requires.open)) c.in_ok-name.ensures.parses) c.in_ok-take.ensures.took) c.in_ok-bound.ensures.parses) c.in_ok-take_word.ensures.took) c.in_ok-body.ensures.parses))
+    gives_as (with_bound c.in_ok-body.body c.into_inner.ensures) (past_mark (given (took (given (took (given (took (into_at (here (call (stmt c.args.depth)) (at c.args.self.now)) (λ _. c.requires.depth) c.requires.open (λ k. refl)) (c.advance-word.ensures.took (Reserved key.Let) c.requires.open)) c.in_ok-name.ensures.parses) c.in_ok-take.ensures.took) c.in_ok-bound.ensures.parses) c.in_ok-take_word.ensures.took) c.in_ok-body.ensures.parses))
 
 pub block-returns-in_err-body-clause-parses : goal.block-returns-in_err-body-clause-parses
 block-returns-in_err-body-clause-parses t c =
@@ -73,7 +70,7 @@ conditional-returns-in_err-no-clause-parses t c =
 
 pub conditional-returns-clause-parses : goal.conditional-returns-clause-parses
 conditional-returns-clause-parses t c =
-    gives_as (with_test c.in_ok-yes.yes c.in_ok-no.no c.into_inner.ensures) (marked (given (took (given (took (given (took (into_at (here (call (stmt c.args.depth)) (at c.args.self.now)) (λ _. c.requires.depth) c.requires.open (λ k. refl)) (c.advance-word.ensures.took (Reserved key.If) c.requires.open)) c.in_ok-test.ensures.parses) c.in_ok-take_word.ensures.took) c.in_ok-yes.ensures.parses) c.in_ok-take_word-2.ensures.took) c.in_ok-no.ensures.parses))
+    gives_as (with_test c.in_ok-yes.yes c.in_ok-no.no c.into_inner.ensures) (past_mark (given (took (given (took (given (took (into_at (here (call (stmt c.args.depth)) (at c.args.self.now)) (λ _. c.requires.depth) c.requires.open (λ k. refl)) (c.advance-word.ensures.took (Reserved key.If) c.requires.open)) c.in_ok-test.ensures.parses) c.in_ok-take_word.ensures.took) c.in_ok-yes.ensures.parses) c.in_ok-take_word-2.ensures.took) c.in_ok-no.ensures.parses))
 
 pub simple-returns-then-is_at_word-clause-parses : goal.simple-returns-then-is_at_word-clause-parses
 simple-returns-then-is_at_word-clause-parses t c =
@@ -97,7 +94,7 @@ simple-returns-clause-parses t c =
 
 pub statement-returns-then-depth-ge-LIMIT-clause-parses : goal.statement-returns-then-depth-ge-LIMIT-clause-parses
 statement-returns-then-depth-ge-LIMIT-clause-parses t c =
-    stmt_deep c.args.depth (at c.args.self.now) c.if-depth-ge-LIMIT.true
+    deep_here (stmt c.args.depth) (at c.args.self.now) c.args.depth c.if-depth-ge-LIMIT.true (λ free. free tt)
 
 pub statement-returns-in_err-inner-clause-parses : goal.statement-returns-in_err-inner-clause-parses
 statement-returns-in_err-inner-clause-parses t c =
@@ -161,4 +158,4 @@ update-returns-in_err-body-clause-parses t c =
 
 pub update-returns-clause-parses : goal.update-returns-clause-parses
 update-returns-clause-parses t c =
-    gives (marked (given (took (given (took (into_at (here (call (stmt c.args.depth)) (at c.args.self.now)) (λ _. c.requires.depth) c.requires.open (λ k. refl)) (c.advance-word.ensures.took (Reserved key.Update) c.requires.open)) c.in_ok-path.ensures.parses) c.in_ok-take_word.ensures.took) c.in_ok-body.ensures.parses))
+    gives (past_mark (given (took (given (took (into_at (here (call (stmt c.args.depth)) (at c.args.self.now)) (λ _. c.requires.depth) c.requires.open (λ k. refl)) (c.advance-word.ensures.took (Reserved key.Update) c.requires.open)) c.in_ok-path.ensures.parses) c.in_ok-take_word.ensures.took) c.in_ok-body.ensures.parses))

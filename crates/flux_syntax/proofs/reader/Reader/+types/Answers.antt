@@ -1,14 +1,14 @@
-use Rattle.std.proofs.Common.{◌≡◌, ◌+◌, ◌++◌, List, [], Some, None, Ok, Err, refl, sym, ap, ◌∙◌, arith}
+use Rattle.std.proofs.Common.{Some, Ok, Err, refl, ap, ◌∙◌, arith}
 use Rattle.std.proofs.lemmas.Result.{err_from_is_err_and}
 use Rattle.flux_grammar.specs.declared.lexeme.Lexeme.TheVariants.{Sign, Word, Quoted, Soft}
 use Rattle.flux_grammar.specs.declared.lexeme.Sign.TheVariants as sign
 use Rattle.flux_grammar.specs.declared.lexeme.Soft.TheVariants as soft
-use Rattle.flux_grammar.specs.Grammar.{type, alts, tseq, seqs, tpost, marks, tatom, labelled, content}
+use Rattle.flux_grammar.specs.Grammar.{type, alts, tseq, seqs, tpost, tatom, labelled, content}
 use Rattle.flux_grammar.specs.States.{head}
 use Rattle.flux_grammar.specs.Machine.{call}
 use Rattle.flux_syntax.specs.At.{at}
-use Rattle.flux_syntax.proofs.Chosen.{is_here, not_here, type_deep, no_bar, no_comma, no_atom, alone_here, some_content}
-use Rattle.flux_syntax.proofs.Leads.{here, into, into_at, took, given, marked, begun, turned, gives, gives_as, gives_all, makes, ends, part_stops, piece_stops, none_here}
+use Rattle.flux_syntax.proofs.Chosen.{is_here, not_here, marks_from, no_bar, no_comma, no_atom, alone_here, some_content}
+use Rattle.flux_syntax.proofs.Leads.{deep_here, here, into, into_at, took, given, past_mark, begun, turned, gives, gives_as, gives_all, makes, ends, part_stops, piece_stops, none_here}
 use Rattle.flux_syntax.proofs.reader.Reader.+types.Goals as goal
 
 pub alternatives-loop-self-init : goal.alternatives-loop-self-init
@@ -139,9 +139,13 @@ pub repeated-returns-in_err-inner-clause-parses : goal.repeated-returns-in_err-i
 repeated-returns-in_err-inner-clause-parses t c =
     part_stops (at c.atom.new.self) c.from_residual.result c.in_err-inner.field-0.0 (into (here (call (tpost c.args.depth)) (at c.args.self.now)) tt (λ k. refl)) (err_from_is_err_and _ c.from_residual.ensures.1) c.in_err-inner.ensures.parses
 
+pub repeated-returns-in_err-marks-clause-parses : goal.repeated-returns-in_err-marks-clause-parses
+repeated-returns-in_err-marks-clause-parses t c =
+    part_stops (at c.marks.new.self) c.from_residual-in_err-marks.result c.in_err-marks.field-0.0 (given (into (here (call (tpost c.args.depth)) (at c.args.self.now)) tt (λ k. refl)) c.in_ok-inner.ensures.parses) (err_from_is_err_and _ c.from_residual-in_err-marks.ensures.1) (marks_from (at c.atom.new.self) (at c.marks.new.self) (Err c.in_err-marks.field-0.0) (ap (λ at. at.from) c.span.ensures) c.in_err-marks.ensures.parses)
+
 pub repeated-returns-clause-parses : goal.repeated-returns-clause-parses
 repeated-returns-clause-parses t c =
-    ends (at c.marked.new.self) c.marked.result (given (into (here (call (tpost c.args.depth)) (at c.args.self.now)) tt (λ k. refl)) c.in_ok-inner.ensures.parses) c.marked.ensures.parses
+    makes c.made_marked.result c.made_marked.ensures (past_mark (given (given (into (here (call (tpost c.args.depth)) (at c.args.self.now)) tt (λ k. refl)) c.in_ok-inner.ensures.parses) (marks_from (at c.atom.new.self) (at c.marks.new.self) (Ok c.in_ok-marks.marks) (ap (λ at. at.from) c.span.ensures) c.in_ok-marks.ensures.parses)))
 
 pub sequence-returns-in_err-first-clause-parses : goal.sequence-returns-in_err-first-clause-parses
 sequence-returns-in_err-first-clause-parses t c =
@@ -153,7 +157,7 @@ sequence-returns-in_err-rest-clause-parses t c =
 
 pub sequence-returns-clause-parses : goal.sequence-returns-clause-parses
 sequence-returns-clause-parses t c =
-    makes c.made_seq.result c.made_seq.ensures (marked (given (given (into (here (call (tseq c.args.depth)) (at c.args.self.now)) tt (λ k. refl)) c.in_ok-first.ensures.parses) c.in_ok-rest.ensures.parses))
+    makes c.made_seq.result c.made_seq.ensures (past_mark (given (given (into (here (call (tseq c.args.depth)) (at c.args.self.now)) tt (λ k. refl)) c.in_ok-first.ensures.parses) c.in_ok-rest.ensures.parses))
 
 pub soft_atom-returns-in-StringWord-clause-parses : goal.soft_atom-returns-in-StringWord-clause-parses
 soft_atom-returns-in-StringWord-clause-parses t c =
@@ -173,7 +177,7 @@ soft_atom-returns-in-ChildWord-clause-parses t c =
 
 pub type_text-returns-then-depth-ge-LIMIT-clause-parses : goal.type_text-returns-then-depth-ge-LIMIT-clause-parses
 type_text-returns-then-depth-ge-LIMIT-clause-parses t c =
-    type_deep c.args.depth (at c.args.self.now) c.if-depth-ge-LIMIT.true
+    deep_here (type c.args.depth) (at c.args.self.now) c.args.depth c.if-depth-ge-LIMIT.true (λ free. free tt)
 
 pub type_text-returns-in_err-first-clause-parses : goal.type_text-returns-in_err-first-clause-parses
 type_text-returns-in_err-first-clause-parses t c =
@@ -185,4 +189,4 @@ type_text-returns-in_err-rest-clause-parses t c =
 
 pub type_text-returns-clause-parses : goal.type_text-returns-clause-parses
 type_text-returns-clause-parses t c =
-    makes c.made_alt.result c.made_alt.ensures (marked (given (given (into (here (call (type c.args.depth)) (at c.args.self.now)) (λ _. c.if-depth-ge-LIMIT.false) (λ k. refl)) c.in_ok-first.ensures.parses) c.in_ok-rest.ensures.parses))
+    makes c.made_alt.result c.made_alt.ensures (past_mark (given (given (into (here (call (type c.args.depth)) (at c.args.self.now)) (λ _. c.if-depth-ge-LIMIT.false) (λ k. refl)) c.in_ok-first.ensures.parses) c.in_ok-rest.ensures.parses))

@@ -1,4 +1,4 @@
-use Rattle.std.proofs.Common.{◌≡◌, ◌≤◌, ◌<◌, ◌+◌, length, ℕ, ◌-◌, ◌*◌, ◌++◌}
+use Rattle.std.proofs.Common.{◌≡◌, ◌≤◌, ◌+◌, length, ◌-◌, ◌*◌, ◌++◌}
 use Rattle.flux_grammar.specs.Grammar.{alts, seqs}
 use Rattle.flux_grammar.specs.Machine.{call}
 use Rattle.flux_syntax.specs.At.{at}

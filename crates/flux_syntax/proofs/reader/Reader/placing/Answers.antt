@@ -1,18 +1,16 @@
-use Rattle.std.proofs.Common.{◌≡◌, ◌+◌, ◌++◌, List, [], ◌∷◌, Some, None, Ok, Err, refl, sym, ap, ◌∙◌, arith}
+use Rattle.std.proofs.Common.{refl}
 use Rattle.std.proofs.lemmas.Result.{err_from_is_err_and}
 use Rattle.flux_grammar.specs.declared.lexeme.Keyword.TheVariants as key
-use Rattle.flux_grammar.specs.declared.lexeme.Lexeme.TheVariants.{Reserved, Sign, Var}
-use Rattle.flux_grammar.specs.declared.lexeme.Sign.TheVariants as sign
+use Rattle.flux_grammar.specs.declared.lexeme.Lexeme.TheVariants.{Reserved}
 use Rattle.flux_grammar.specs.declared.tree.Stmt.TheVariants as st
-use Rattle.flux_grammar.specs.Grammar.{spanning, type, path, slashes, step, spot, filtered, expr, stmts, nexts, ending, stmt, guard, simple, inserting, placing, deleting, replacing, args, typedefs, typedef, procdefs, procdef, params, params_on, param, output, script}
-use Rattle.flux_grammar.specs.States.{head, end}
+use Rattle.flux_grammar.specs.Grammar.{spanning, placing}
+use Rattle.flux_grammar.specs.States.{head}
 use Rattle.flux_grammar.specs.Machine.{call, mark}
 use Rattle.flux_syntax.specs.At.{at}
-use Rattle.flux_syntax.specs.Steps.{path_and_value, path_and_other}
+use Rattle.flux_syntax.specs.Steps.{path_and_value}
 use Rattle.flux_syntax.proofs.Chosen.{is_here, not_here}
-use Rattle.flux_syntax.proofs.Leads.{here, passes, same_tree, into, into_at, took, given, given_by, marked, begun, turned, gives, gives_as, gives_all, makes, ends, part_stops, piece_stops, reading_stops, none_here}
-use Rattle.flux_syntax.proofs.QueryChoices.{var_here}
-use Rattle.flux_syntax.proofs.StatementChoices.{same_guard, with_bound, with_test, with_types, with_input, no_slashes, free_step, tested_spot, no_filter, stmt_deep, no_nexts, ended, goes_on, simple_stmt, unguarded, no_simple, no_inserting, no_placing, deletes_path, replaces_path, some_args, no_typedefs, no_procdefs, some_params, no_params_on, no_output}
+use Rattle.flux_syntax.proofs.Leads.{here, into_at, took, given_by, past_mark, gives, piece_stops, reading_stops, none_here}
+use Rattle.flux_syntax.proofs.StatementChoices.{no_placing}
 use Rattle.flux_syntax.proofs.reader.Reader.placing.Goals as goal
 
 pub returns-in_err-take_word-clause-parses : goal.returns-in_err-take_word-clause-parses
@@ -25,7 +23,7 @@ returns-in_err-path-clause-parses c =
 
 pub returns-then-is_at_word-clause-parses : goal.returns-then-is_at_word-clause-parses
 returns-then-is_at_word-clause-parses c =
-    gives (marked (given_by (path_and_value c.args.depth) (λ k pq. mark (λ e. k (st.InsertFirst pq.0 pq.1 (spanning c.args.from e)))) (took (took (into_at (here (call (placing c.args.depth c.args.from)) (at c.args.self.now)) tt (is_here c.is_at_word.ensures.here c.if-is_at_word.true) (λ k. refl)) (c.advance.ensures.took (Reserved key.First) (is_here c.is_at_word.ensures.here c.if-is_at_word.true))) c.in_ok-take_word.ensures.took) c.in_ok-path.ensures.parses))
+    gives (past_mark (given_by (path_and_value c.args.depth) (λ k pq. mark (λ e. k (st.InsertFirst pq.0 pq.1 (spanning c.args.from e)))) (took (took (into_at (here (call (placing c.args.depth c.args.from)) (at c.args.self.now)) tt (is_here c.is_at_word.ensures.here c.if-is_at_word.true) (λ k. refl)) (c.advance.ensures.took (Reserved key.First) (is_here c.is_at_word.ensures.here c.if-is_at_word.true))) c.in_ok-take_word.ensures.took) c.in_ok-path.ensures.parses))
 
 pub returns-in_err-take_word-2-clause-parses : goal.returns-in_err-take_word-2-clause-parses
 returns-in_err-take_word-2-clause-parses c =
@@ -37,7 +35,7 @@ returns-in_err-path-2-clause-parses c =
 
 pub returns-then-is_at_word-2-clause-parses : goal.returns-then-is_at_word-2-clause-parses
 returns-then-is_at_word-2-clause-parses c =
-    gives (marked (given_by (path_and_value c.args.depth) (λ k pq. mark (λ e. k (st.InsertLast pq.0 pq.1 (spanning c.args.from e)))) (took (took (into_at (here (call (placing c.args.depth c.args.from)) (at c.args.self.now)) tt (is_here c.is_at_word-2.ensures.here c.if-is_at_word-2.true) (λ k. refl)) (c.advance-then-is_at_word-2.ensures.took (Reserved key.Last) (is_here c.is_at_word-2.ensures.here c.if-is_at_word-2.true))) c.in_ok-take_word-2.ensures.took) c.in_ok-path-2.ensures.parses))
+    gives (past_mark (given_by (path_and_value c.args.depth) (λ k pq. mark (λ e. k (st.InsertLast pq.0 pq.1 (spanning c.args.from e)))) (took (took (into_at (here (call (placing c.args.depth c.args.from)) (at c.args.self.now)) tt (is_here c.is_at_word-2.ensures.here c.if-is_at_word-2.true) (λ k. refl)) (c.advance-then-is_at_word-2.ensures.took (Reserved key.Last) (is_here c.is_at_word-2.ensures.here c.if-is_at_word-2.true))) c.in_ok-take_word-2.ensures.took) c.in_ok-path-2.ensures.parses))
 
 pub returns-clause-parses : goal.returns-clause-parses
 returns-clause-parses c =

@@ -1,4 +1,4 @@
-use Rattle.std.proofs.Common.{◌≤◌, length, ◌≡◌}
+use Rattle.std.proofs.Common.{◌≡◌, ◌≤◌, ◌++◌, length}
 use Rattle.flux_grammar.specs.Grammar.{steps}
 use Rattle.flux_grammar.specs.Machine.{call}
 use Rattle.flux_syntax.specs.At.{at}
@@ -7,8 +7,9 @@ use Rattle.flux_syntax.proofs.reader.Reader.steps.Given as goal
 
 abbrev pub invariant-loop-self : goal.invariant-loop-self
 invariant-loop-self l = record {
+  same : l.from ≡ l.fn.from;
   shorter : length l.self.left.now ≤ length l.fn.self.left.now;
-  on : Leads (call (steps l.fn.first)) (at l.fn.self) (call (steps l.whole)) (at l.self);
+  on : Leads (call (steps l.from)) (at l.fn.self) (λ k. call (steps l.from) (λ ss. k (l.all ++ ss))) (at l.self);
 }
 
 abbrev pub decreases-loop-self : goal.decreases-loop-self

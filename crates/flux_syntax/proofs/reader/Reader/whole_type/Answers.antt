@@ -1,5 +1,5 @@
 use Rattle.std.proofs.lemmas.Result.{err_from_is_err_and}
-use Rattle.flux_grammar.specs.Grammar.{script, type, expr}
+use Rattle.flux_grammar.specs.Grammar.{type}
 use Rattle.flux_syntax.specs.At.{at}
 use Rattle.flux_syntax.proofs.Whole.{ran_whole, ran_over, ran_stops}
 use Rattle.flux_syntax.proofs.reader.Reader.whole_type.Goals as goal
