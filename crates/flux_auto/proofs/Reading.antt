@@ -188,6 +188,23 @@ module _ (defs : Definitions) where
 
   -- ---- one part after another
 
+  -- of two types that are the same, one is read
+  pub linear_same : (a b : Table) (t u : Ty) (tail : ℕ) (es : List Edge) → t ≡ u → Linear defs a b t tail es → Linear defs a b (alt t u) tail es
+  linear_same a b t u tail es same x =
+      let ts = lists b.cells.items in
+      subst (λ u. Linear defs a b (alt t u) tail es) same (record {
+        even = x.even;
+        own = x.own;
+        labels = x.labels;
+        reads = record {
+          tail_below = x.reads.tail_below;
+          below = x.reads.below;
+          labels = x.reads.labels;
+          sound = λ z h. alt-starts_left defs t t (at ts tail) z (x.reads.sound z h);
+          complete = λ z h. elim (starts-alt defs t t (at ts tail) z h) [ inl k ↦ x.reads.complete z k | inr k ↦ x.reads.complete z k ];
+        };
+      })
+
   pub linear_alt : (a b c : Table) (t u : Ty) (tail : ℕ) (es fs all : List Edge) → Linear defs a b t tail es → Grows (length b.rows.items) b c → Linear defs b c u tail fs → all ≡ es ++ fs → Linear defs a c (alt t u) tail all
   linear_alt a b c t u tail es fs all x g y e =
       let r = reads_on (length b.rows.items) b c t tail es x.reads g in

@@ -18,7 +18,7 @@ use Rattle.flux_auto.specs.Built.{Grows, Put, IsEven, IsSet, IsGround, Linear}
 use Rattle.flux_auto.specs.Pending.{ComesType, ComesFirst, ComesRow, Comes, AllCome, effort, task_effort, all_effort, IsEffort, HasRead, Opens, PutsSecond}
 use Rattle.flux_auto.proofs.Growing.{grows_by, grows_on, grows_same, grows_set, grows-length}
 use Rattle.flux_auto.proofs.Contents.{put-even}
-use Rattle.flux_auto.proofs.Reading.{ground_on, ready_on, labels_on, null_iff, put-grows, put-below, linear_alt, linear_seq, linear_star, linear_name}
+use Rattle.flux_auto.proofs.Reading.{ground_on, ready_on, labels_on, null_iff, put-grows, put-below, linear_alt, linear_same, linear_seq, linear_star, linear_name}
 
 -- ---- aims
 
@@ -76,6 +76,20 @@ module _ (defs : Definitions) (tail : ℕ) (a : Table) (v w : Work) (even : IsEv
     tasks = k ∙ sym (append-nil v.tasks.items);
     come = record { grows = grows_same (length a.rows.items) a (omega arith); more = more; edges = e; linear = l };
     fewer = λ f is. omega (arith, one f);
+  }
+
+  pub opens_same : (x y : Bor Tree) → ty_of x.now ≡ ty_of y.now → Ready (length defs) a.cells.items (ty_of x.now) → LabelsStand defs a.cells.items (ty_of x.now) → w.tasks.items ≡ v.tasks.items ++ Read x tail ∷ [] → w.edges.items ≡ v.edges.items → Opens defs (alt (ty_of x.now) (ty_of y.now)) tail a v a w
+  opens_same x y same rx lx k e = record {
+    even = even;
+    more = Read x tail ∷ [];
+    tasks = k;
+    come = record {
+      ready = rx;
+      labels = lx;
+      there = there;
+      meets = λ b more g l. record { grows = g; more = more; edges = ap (λ l. l ++ more) e; linear = linear_same defs a b (ty_of x.now) (ty_of y.now) tail more same l };
+    };
+    fewer = λ f is. omega arith;
   }
 
   pub opens_alt : (x y : Bor Tree) → Ready (length defs) a.cells.items (ty_of x.now) → Ready (length defs) a.cells.items (ty_of y.now) → LabelsStand defs a.cells.items (ty_of x.now) → LabelsStand defs a.cells.items (ty_of y.now) → w.tasks.items ≡ (v.tasks.items ++ Read y tail ∷ []) ++ Read x tail ∷ [] → w.edges.items ≡ v.edges.items

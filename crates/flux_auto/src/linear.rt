@@ -7,7 +7,7 @@ ghost use Rattle.flux_auto.specs.Built.{Grows, IsEven, IsGround, Linear};
 ghost use Rattle.flux_auto.specs.Pending.{Opens, PutsSecond, FillsRow};
 
 use crate::Edge;
-use crate::content::find;
+use crate::content::{find, is_same};
 use crate::names::has_empty;
 use crate::table::{Table, put, set_row};
 use flux_types::{Defs, Ty, copy_of};
@@ -62,11 +62,11 @@ fn read<'t>(
         Ty::Empty => {}
         Ty::Atom(kind) => work.edges.push(Edge::Atom(*kind, next))?,
         Ty::Elem(label, inner) => {
-            let content = find(&table.cells, inner.get()).unwrap_or(0);
+            let content = find(table, inner.get()).unwrap_or(0);
             work.edges.push(Edge::Elem(*label, content, next))?;
         }
         Ty::AnyElem(inner) => {
-            let content = find(&table.cells, inner.get()).unwrap_or(0);
+            let content = find(table, inner.get()).unwrap_or(0);
             work.edges.push(Edge::AnyElem(content, next))?;
         }
         Ty::Seq(left, right) => {
@@ -80,8 +80,13 @@ fn read<'t>(
             work.tasks.push(Task::Read(right, next))?;
         }
         Ty::Alt(left, right) => {
-            work.tasks.push(Task::Read(right.get(), next))?;
-            work.tasks.push(Task::Read(left.get(), next))?;
+            let (left, right) = (left.get(), right.get());
+            if is_same(left, right) {
+                work.tasks.push(Task::Read(left, next))?;
+            } else {
+                work.tasks.push(Task::Read(right, next))?;
+                work.tasks.push(Task::Read(left, next))?;
+            }
         }
         Ty::Star(inner) => {
             let state = put(table, copy_of(alloc, ty)?, next, true, Vec::new(alloc))?;

@@ -9,6 +9,7 @@ use crate::close::complete;
 use crate::content::{put_content, register};
 use crate::table::{Table, put};
 use flux_types::{Defs, Ty};
+use indexmap::IndexMap;
 use std::alloc::{AllocError, Global};
 
 // A table with no state but the end.
@@ -18,6 +19,7 @@ fn begun(alloc: Global) -> Result<Table, AllocError>
     let mut table = Table {
         cells: Vec::new(alloc),
         rows: Vec::new(alloc),
+        guesses: IndexMap::new(alloc),
     };
     put(&mut table, Ty::Empty, 0, true, Vec::new(alloc))?;
     Ok(table)

@@ -5,6 +5,7 @@ ghost use Rattle.flux_auto.specs.Built.{Grows, Put, IsSet, IsEven};
 
 use crate::Edge;
 use flux_types::Ty;
+use indexmap::IndexMap;
 use std::alloc::AllocError;
 
 // A state that stands for a type and then what an older state stands for.
@@ -21,11 +22,14 @@ pub(crate) struct Row {
     pub(crate) edges: Vec<Edge>,
 }
 
-// A cell and a row for each state. The first state is the end of every list of types.
+// A cell and a row for each state. The first state is the end of every list of types. By the
+// fingerprint of a type stands a state that may stand for that type alone: it is tested before it
+// is used, so nothing is asked of it.
 #[derive(Drop)]
 pub(crate) struct Table {
     pub(crate) cells: Vec<Cell>,
     pub(crate) rows: Vec<Row>,
+    pub(crate) guesses: IndexMap<u64, u64>,
 }
 
 // A new state, which stands for a type and then what the tail stands for.

@@ -1,6 +1,7 @@
 use Rattle.std.proofs.Common.{◌∙◌, inl, inr, sym, ap, refl, subst, [], ◌∷◌, ◌++◌, length, true}
 use Rattle.std.proofs.lemmas.List.{append-nil}
 use Rattle.flux_schema.specs.Ty.{Ty, empty, atom, element, any_element, seq, alt, star, named}
+use Rattle.flux_schema.proofs.SameLaws.{same-eq}
 use Rattle.flux_types.specs.Read.{ty_of}
 use Rattle.flux_types.proofs.Variants.{of_empty, of_atom, of_elem, of_any, of_seq, of_alt, of_star, of_named}
 use Rattle.flux_auto.specs.declared.edge.Edge.TheVariants.{Atom, Elem, AnyElem}
@@ -8,7 +9,7 @@ use Rattle.flux_auto.specs.declared.linear.Task.TheVariants.{Read}
 use Rattle.flux_auto.specs.Standing.{Ready, LabelsStand}
 use Rattle.flux_auto.proofs.Contents.{found_state, put_as}
 use Rattle.flux_auto.proofs.Reading.{linear_empty, linear_atom, linear_element, linear_any}
-use Rattle.flux_auto.proofs.Tasks.{opens_as, opens_at_once, opens_alt, opens_seq, opens_star, opens_name}
+use Rattle.flux_auto.proofs.Tasks.{opens_as, opens_at_once, opens_same, opens_alt, opens_seq, opens_star, opens_name}
 use Rattle.flux_auto.proofs.linear.read.Goals as goal
 
 pub returns-in-Empty-clause-ok : goal.returns-in-Empty-clause-ok
@@ -38,7 +39,7 @@ returns-in_ok-push-in-Elem-clause-ok c =
     let e = of_elem c.args.ty.now n c.in-Elem.inner c.get.result.now c.in-Elem.is c.get.ensures in
     let stand = subst (λ (x : Ty). LabelsStand defs a.cells.items x) e c.requires.labels in
     let has = subst (λ (x : Ty). Ready (length defs) a.cells.items x) e c.requires.ready in
-    let k = found_state a.cells.items c.deref.result.now inner c.find.result s c.deref.ensures.value c.find.ensures.found c.find.ensures.none has c.unwrap_or-content.ensures in
+    let k = found_state a.cells.items a.cells.items inner c.find.result s refl c.find.ensures.found c.find.ensures.none has c.unwrap_or-content.ensures in
     opens_as defs (element n inner) (ty_of c.args.ty.now) c.args.next a a c.args.work.now _ e
     (opens_at_once defs c.args.next a c.args.work.now _ c.requires.even c.requires.tail (element n inner) (Elem n s c.args.next ∷ []) (λ f. refl) refl c.in_ok-push-in-Elem.ensures.items
     (linear_element defs a n inner s c.args.next (Elem n s c.args.next ∷ []) c.requires.even c.requires.end c.requires.tail k (stand n (inl refl)) refl))
@@ -51,7 +52,7 @@ returns-in_ok-push-in-AnyElem-clause-ok c =
     let s = c.unwrap_or-content-in-AnyElem.result in
     let e = of_any c.args.ty.now c.in-AnyElem.inner c.get-in-AnyElem.result.now c.in-AnyElem.is c.get-in-AnyElem.ensures in
     let has = subst (λ (x : Ty). Ready (length defs) a.cells.items x) e c.requires.ready in
-    let k = found_state a.cells.items c.deref-in-AnyElem.result.now inner c.find-in-AnyElem.result s c.deref-in-AnyElem.ensures.value c.find-in-AnyElem.ensures.found c.find-in-AnyElem.ensures.none has c.unwrap_or-content-in-AnyElem.ensures in
+    let k = found_state a.cells.items a.cells.items inner c.find-in-AnyElem.result s refl c.find-in-AnyElem.ensures.found c.find-in-AnyElem.ensures.none has c.unwrap_or-content-in-AnyElem.ensures in
     opens_as defs (any_element inner) (ty_of c.args.ty.now) c.args.next a a c.args.work.now _ e
     (opens_at_once defs c.args.next a c.args.work.now _ c.requires.even c.requires.tail (any_element inner) (AnyElem s c.args.next ∷ []) (λ f. refl) refl c.in_ok-push-in-AnyElem.ensures.items
     (linear_any defs a inner s c.args.next (AnyElem s c.args.next ∷ []) c.requires.even c.requires.end c.requires.tail k refl))
@@ -70,19 +71,32 @@ returns-in_ok-push-in-Seq-2-clause-ok c =
     (opens_seq defs c.args.next a v _ c.requires.even c.requires.tail left right c.len-from.result (c.len-from.ensures ∙ v.edges.ok.0) ready.0 ready.1 (λ n h. stand n (inl h)) (λ n h. stand n (inr h))
     (c.in_ok-push-in-Seq-2.ensures.items ∙ ap (λ l. l ++ Read right c.args.next ∷ []) c.in_ok-push-in-Seq.ensures.items) refl)
 
-pub returns-in_ok-push-in-Alt-2-clause-ok : goal.returns-in_ok-push-in-Alt-2-clause-ok
-returns-in_ok-push-in-Alt-2-clause-ok c =
+pub returns-in_ok-push-in-Alt-clause-ok : goal.returns-in_ok-push-in-Alt-clause-ok
+returns-in_ok-push-in-Alt-clause-ok c =
     let defs = c.args.defs.now in
     let a = c.args.table.now in
     let v = c.args.work.now in
-    let right = c.get-in-Alt.result in
-    let left = c.get-in-Alt-2.result in
-    let e = of_alt c.args.ty.now c.in-Alt.left c.in-Alt.right left.now right.now c.in-Alt.is c.get-in-Alt-2.ensures c.get-in-Alt.ensures in
+    let left = c.get-left-in-Alt.result in
+    let right = c.get-right-in-Alt.result in
+    let e = of_alt c.args.ty.now c.in-Alt.left c.in-Alt.right left.now right.now c.in-Alt.is c.get-left-in-Alt.ensures c.get-right-in-Alt.ensures in
+    let ready = subst (λ (x : Ty). Ready (length defs) a.cells.items x) e c.requires.ready in
+    let stand = subst (λ (x : Ty). LabelsStand defs a.cells.items x) e c.requires.labels in
+    opens_as defs (alt (ty_of left.now) (ty_of right.now)) (ty_of c.args.ty.now) c.args.next a a v _ e
+    (opens_same defs c.args.next a v _ c.requires.even c.requires.tail left right (same-eq (ty_of left.now) (ty_of right.now) (sym c.is_same.ensures ∙ c.if-is_same.true)) ready.0 (λ n h. stand n (inl h)) c.in_ok-push-in-Alt.ensures.items refl)
+
+pub returns-in_ok-push-in-Alt-3-clause-ok : goal.returns-in_ok-push-in-Alt-3-clause-ok
+returns-in_ok-push-in-Alt-3-clause-ok c =
+    let defs = c.args.defs.now in
+    let a = c.args.table.now in
+    let v = c.args.work.now in
+    let left = c.get-left-in-Alt.result in
+    let right = c.get-right-in-Alt.result in
+    let e = of_alt c.args.ty.now c.in-Alt.left c.in-Alt.right left.now right.now c.in-Alt.is c.get-left-in-Alt.ensures c.get-right-in-Alt.ensures in
     let ready = subst (λ (x : Ty). Ready (length defs) a.cells.items x) e c.requires.ready in
     let stand = subst (λ (x : Ty). LabelsStand defs a.cells.items x) e c.requires.labels in
     opens_as defs (alt (ty_of left.now) (ty_of right.now)) (ty_of c.args.ty.now) c.args.next a a v _ e
     (opens_alt defs c.args.next a v _ c.requires.even c.requires.tail left right ready.0 ready.1 (λ n h. stand n (inl h)) (λ n h. stand n (inr h))
-    (c.in_ok-push-in-Alt-2.ensures.items ∙ ap (λ l. l ++ Read left c.args.next ∷ []) c.in_ok-push-in-Alt.ensures.items) refl)
+    (c.in_ok-push-in-Alt-3.ensures.items ∙ ap (λ l. l ++ Read left c.args.next ∷ []) c.in_ok-push-in-Alt-2.ensures.items) refl)
 
 pub returns-in_ok-push-in-Star-2-clause-ok : goal.returns-in_ok-push-in-Star-2-clause-ok
 returns-in_ok-push-in-Star-2-clause-ok c =

@@ -1,7 +1,7 @@
 use Rattle.std.proofs.Common.{true, false, ◌≡◌, sym, ◌∙◌, arith}
 use Rattle.flux_types.specs.Read.{ty_of}
 use Rattle.flux_auto.proofs.Contents.{none_found, none_next, found_at}
-use Rattle.flux_auto.proofs.content.find.Goals as goal
+use Rattle.flux_auto.proofs.content.first_content.Goals as goal
 
 pub loop-index-init : goal.loop-index-init
 loop-index-init c = λ s d later lt e. absurd (omega (arith, later, lt))
