@@ -385,16 +385,15 @@ fn starts_stay(rt: HostRuntime) -> Result<(), Fail> {
 
 // ---- chains of names
 
-// More names than calls that nest have room for: as many as a script has room for, and fewer where
-// each has a content of its own.
+// More names than calls that nest have room for: as many as a script has room for.
 const CHAIN: u32 = 60_000;
 
-const NESTED: u32 = 10_000;
-
-// How a definition names the next one: plainly, beside an element, or inside one.
+// How a definition names the next one: plainly, twice in a choice, beside an element, or inside
+// one.
 #[derive(Clone, Copy)]
 enum Link {
     Plain,
+    Twice,
     Beside(Name),
     Inside(Name),
 }
@@ -403,6 +402,10 @@ fn link_to(alloc: Global, link: &Link, index: u32) -> Result<Ty, AllocError> {
     let next = Ty::Named(index);
     match link {
         Link::Plain => Ok(next),
+        Link::Twice => {
+            let again = Boxed::new(alloc, Ty::Named(index))?;
+            Ok(Ty::Alt(Boxed::new(alloc, next)?, again))
+        }
         Link::Inside(label) => Ok(Ty::Elem(*label, Boxed::new(alloc, next)?)),
         Link::Beside(label) => {
             let beside = Ty::Elem(*label, Boxed::new(alloc, Ty::Empty)?);
@@ -455,6 +458,7 @@ fn chains_of_names(rt: HostRuntime) -> Result<(), Fail> {
     let b = label_of(&at.labels, b'b').ok_or("a label")?;
     let plain = [("a]", true), ("b]", false)];
     assert_chain(&rt, alloc, &at, &Link::Plain, "a.", &plain)?;
+    assert_chain(&rt, alloc, &at, &Link::Twice, "a.", &plain)?;
     let beside = [("a]", true), ("b]", true), ("c]", false)];
     assert_chain(&rt, alloc, &at, &Link::Beside(b), "a.", &beside)?;
     let empty = [("", true), ("a]", false)];
@@ -468,7 +472,7 @@ fn deep_members(rt: HostRuntime) -> Result<(), Fail> {
     let at = make_scene(&rt, alloc)?;
     let a = label_of(&at.labels, b'a').ok_or("a label")?;
     let last = read_type(alloc, &at.labels, "b.")?;
-    let defs = chain(&rt, alloc, NESTED, &Link::Inside(a), last)?;
+    let defs = chain(&rt, alloc, CHAIN, &Link::Inside(a), last)?;
     let first = Ty::Named(0);
     assert!(rt; is_known(&first, defs.len()));
     let mut auto = Auto::new(alloc, &defs, at.other)?;
@@ -476,5 +480,68 @@ fn deep_members(rt: HostRuntime) -> Result<(), Fail> {
     let forest = auto.some(start)?.ok_or("a member")?;
     assert!(rt; forest.is_whole());
     assert!(rt; auto.member(start, forest.view())?);
+    Ok(())
+}
+
+// ---- towers of elements
+
+const TOWERS: u32 = 130;
+
+const LEVELS: u32 = 480;
+
+// The label of a level, by a bit of the tower's number: no two towers are alike from eight levels
+// on.
+fn level_label(one: Name, zero: Name, number: u32, level: u32) -> Name {
+    if (number >> (level % 8)) % 2 == 1 {
+        one
+    } else {
+        zero
+    }
+}
+
+fn tower_type(alloc: Global, one: Name, zero: Name, number: u32) -> Result<Ty, AllocError> {
+    let mut ty = Ty::Empty;
+    for level in 0..LEVELS {
+        let inner = Boxed::new(alloc, ty)?;
+        ty = Ty::Elem(level_label(one, zero, number, level), inner);
+    }
+    Ok(ty)
+}
+
+fn tower(
+    rt: &impl Abort,
+    alloc: Global,
+    one: Name,
+    zero: Name,
+    number: u32,
+) -> Result<Forest, Fail> {
+    let mut forest = Forest::new(alloc);
+    for level in (0..LEVELS).rev() {
+        forest.begin_element(level_label(one, zero, number, level))?;
+    }
+    for _ in 0..LEVELS {
+        assert!(rt; !forest.is_whole());
+        forest.end_element();
+    }
+    Ok(forest)
+}
+
+// As many elements as a type has room for, each with a content of its own.
+#[test]
+fn towers(rt: HostRuntime) -> Result<(), Fail> {
+    let alloc = rt.alloc();
+    let at = make_scene(&rt, alloc)?;
+    let a = label_of(&at.labels, b'a').ok_or("a label")?;
+    let b = label_of(&at.labels, b'b').ok_or("a label")?;
+    let mut choice = Ty::Empty;
+    for number in 0..TOWERS {
+        let tower = Boxed::new(alloc, tower_type(alloc, a, b, number)?)?;
+        choice = Ty::Alt(tower, Boxed::new(alloc, choice)?);
+    }
+    for (number, want) in [(77, true), (129, true), (130, false)] {
+        let forest = tower(&rt, alloc, a, b, number)?;
+        let found = is_member(&rt, alloc, &at.defs, at.other, &choice, &forest)?;
+        assert_eq!(rt; found, want, "{number}");
+    }
     Ok(())
 }
