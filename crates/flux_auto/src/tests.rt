@@ -385,8 +385,11 @@ fn starts_stay(rt: HostRuntime) -> Result<(), Fail> {
 
 // ---- chains of names
 
-// More names than calls that nest have room for: as many as a script has room for.
+// More names than calls that nest have room for: as many as a script has room for, and fewer where
+// each has a content of its own, since a profile has a truth value for each state.
 const CHAIN: u32 = 60_000;
+
+const NESTED: u32 = 10_000;
 
 // How a definition names the next one: plainly, twice in a choice, beside an element, or inside
 // one.
@@ -472,7 +475,7 @@ fn deep_members(rt: HostRuntime) -> Result<(), Fail> {
     let at = make_scene(&rt, alloc)?;
     let a = label_of(&at.labels, b'a').ok_or("a label")?;
     let last = read_type(alloc, &at.labels, "b.")?;
-    let defs = chain(&rt, alloc, CHAIN, &Link::Inside(a), last)?;
+    let defs = chain(&rt, alloc, NESTED, &Link::Inside(a), last)?;
     let first = Ty::Named(0);
     assert!(rt; is_known(&first, defs.len()));
     let mut auto = Auto::new(alloc, &defs, at.other)?;
