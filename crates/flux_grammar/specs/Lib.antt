@@ -6,3 +6,4 @@ pub mod States
 pub mod Grammar
 pub mod Machine
 pub mod Readings
+pub mod TypeOf
