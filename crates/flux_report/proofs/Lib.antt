@@ -1,1 +1,15 @@
 mod Counted
+mod TreeTypes
+mod SameTypes
+mod Items
+mod Forms
+mod Places
+mod Atoms
+mod Joins
+mod Readings
+mod Spelled
+mod SingleSigns
+mod Fitting
+mod Learning
+mod Piecing
+mod TypesBack

@@ -1,11 +1,13 @@
 //! What a person reads of a script that is refused: a line that names the fault and its place.
 #![tactic(auto)]
 
+mod laws;
 mod line;
 mod position;
 
 pub use flux_lex::LexFault;
 pub use flux_syntax::SynFault;
+pub use laws::printed_types_read_back;
 pub use line::{ScriptFault, script_line};
 pub use position::line_and_column;
 
