@@ -1,7 +1,7 @@
 mod KnownWords
 mod OneToken
 pub mod SoFar
-mod Standing
+pub mod Standing
 mod Leads
 mod Chosen
 mod LabelChoices

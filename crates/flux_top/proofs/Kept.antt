@@ -1,11 +1,9 @@
 -- A deletion brings no label and no atom in.
-use Rattle.std.proofs.Common.{◌≡◌, ℕ, Bool, List, [], ◌∷◌, Some}
+use Rattle.std.proofs.Common.{ℕ, Bool, List, [], ◌∷◌}
 use Rattle.flux_atom.specs.declared.atom.Atom.{Atom}
 use Rattle.flux_atom.specs.declared.atom.Atom.TheVariants.{Bool as Truth}
 use Rattle.flux_trees.specs.Hedge.{Plain, nil, elem, leaf}
 use Rattle.flux_trees.specs.Each.{EachLabel, EachAtom}
-use Rattle.flux_calculus.specs.declared.ask.Var.{Var}
-use Rattle.flux_calculus.specs.Core.{Proc, proc_of}
 use Rattle.flux_calculus.specs.Derives.{Derives}
 use Rattle.flux_calculus.specs.Brings.{Holds, AllHold, CoreBrings, ProcsBring}
 use Rattle.flux_calculus.proofs.EachLaws.{derives-holds}

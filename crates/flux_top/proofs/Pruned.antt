@@ -1,10 +1,10 @@
 -- A forest without the elements on a path, tree by tree, and how a loop over the levels writes it.
-use Rattle.std.proofs.Common.{◌≡◌, ◌≢◌, ◌∙◌, refl, sym, ap, ℕ, suc, ◌+◌, ◌*◌, ◌<◌, Bool, true, false, ◌==◌, List, [], ◌∷◌, ◌++◌, length, drop, get_or, if◌then◌else◌, arith, length-append}
+use Rattle.std.proofs.Common.{◌≡◌, ◌≢◌, ◌∙◌, refl, sym, ap, ℕ, suc, ◌+◌, ◌<◌, Bool, true, false, ◌==◌, List, [], ◌∷◌, ◌++◌, length, drop, get_or, if◌then◌else◌, arith, length-append}
 use Rattle.std.proofs.Math.Seq.{drop-cons, drop-nil}
 use Rattle.std.proofs.lemmas.List.{drop_all}
 use Rattle.std.proofs.lemmas.Bool.Decides.{nat_tests}
 use Rattle.flux_atom.specs.declared.atom.Atom.{Atom}
-use Rattle.flux_trees.specs.Hedge.{Plain, nil, elem, leaf, join, size, first, others, trees}
+use Rattle.flux_trees.specs.Hedge.{Plain, nil, elem, leaf, join, first, others, trees}
 use Rattle.flux_trees.specs.Draft.{Draft, done, depth, add, begin, end}
 use Rattle.flux_trees.proofs.DraftLaws.{depth-add, depth-begin, depth-end, end-begin, add-add, add-nil}
 use Rattle.flux_calculus.specs.declared.ask.Test.TheVariants.{Label}

@@ -1,6 +1,5 @@
 -- What is written spells the forest that is derived.
-use Rattle.std.proofs.Common.{◌≡◌, refl, ℕ, List, [], ◌∷◌, ◌++◌, Option, Some, None}
-use Rattle.std.specs.Prelude.{IfSome}
+use Rattle.std.proofs.Common.{◌≡◌, refl, ℕ, List, Option, Some, None}
 use Rattle.std.specs.Io.KnownBytes.{append_known}
 use Rattle.flux_io.specs.Outside.{Held}
 use Rattle.flux_doctext.specs.Text.{text, NamesLabel, IsProper}

@@ -1,12 +1,10 @@
 -- Forests that are spelled by the same bytes, over two tables.
-use Rattle.std.proofs.Common.{◌≡◌, List, [], ◌∷◌, ◌++◌, ◌⊎◌, inl, inr, ◌||◌, length, ℕ, zero, suc, Bool, true, false, Some, refl, ap, subst, sym, ◌∙◌, if◌then◌else◌, append_assoc}
-use Rattle.std.proofs.lemmas.List.{append-nil}
+use Rattle.std.proofs.Common.{◌≡◌, List, [], ◌∷◌, ◌++◌, ◌⊎◌, inl, inr, ◌||◌, length, ℕ, zero, suc, Bool, true, false, Some, refl, ap, subst, sym, ◌∙◌, if◌then◌else◌}
 use Rattle.std.proofs.lemmas.List.Elements.{All-head, All-tail}
-use Rattle.std.proofs.lemmas.Option.{slice_get_within}
 use Rattle.std.proofs.lemmas.Slice.Eq.{bytes_eq-Decides}
-use Rattle.std.specs.Prelude.{Option, IsSomeAnd, slice_get, unwrap_or, All, bytes_eq}
+use Rattle.std.specs.Prelude.{slice_get, unwrap_or, All, bytes_eq}
 use Rattle.std.specs.List.{list_any}
-use Rattle.flux_atom.specs.Names.{IsLabel, IsName, IsTable, with_text}
+use Rattle.flux_atom.specs.Names.{IsName, IsTable, with_text}
 use Rattle.flux_atom.proofs.FreshLaws.{last_at}
 use Rattle.flux_trees.specs.Hedge.{Plain, nil, elem, leaf, join}
 use Rattle.flux_trees.specs.Each.{EachLabel}
@@ -17,9 +15,8 @@ use Rattle.flux_doctext.specs.Labels.{learnt}
 use Rattle.flux_doctext.proofs.LabelLaws.{learnt_more, spelled_labels}
 use Rattle.flux_doctext.proofs.SpelledLaws.{spelled-more, held_more}
 use Rattle.flux_doctext.proofs.ReadLaws.{spelled_once}
-use Rattle.flux_doctext.proofs.TextLaws.{slice_get-more, NamesLabel-found}
+use Rattle.flux_doctext.proofs.TextLaws.{NamesLabel-found}
 use Rattle.flux_doctext.proofs.ViableLaws.{IsTable-with_text}
-use Rattle.flux_top.proofs.Interned.{with_text-grows}
 
 -- the first table holds each text of the second
 abbrev Covers : List (List ℕ) → List (List ℕ) → Type 0

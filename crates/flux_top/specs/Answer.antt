@@ -9,17 +9,16 @@ use Rattle.flux_calculus.specs.Derives.{Derives}
 use Rattle.flux_top.specs.Paths.{standard, delete_on}
 use Rattle.flux_top.specs.Words.{form}
 use Rattle.flux_top.specs.Lines.{status_of, line_of}
-use Rattle.flux_top.specs.Script.{DeletesPath}
-use Rattle.flux_top.specs.Positions.{IsPosition}
-use Rattle.flux_top.specs.declared.position.Position.{Position}
+use Rattle.flux_top.specs.Script.{script_limit, IsScriptOf, IsScriptFault, DeletesNone, DeletesPath}
+use Rattle.flux_grammar.specs.declared.tree.Script.{Script as Tree}
+use Rattle.flux_report.specs.declared.line.ScriptFault.{ScriptFault}
+use Rattle.flux_report.specs.Lines.{script_text}
+use Rattle.flux_report.specs.Positions.{line_of_place, column_of_place}
 use Rattle.flux_top.specs.declared.status.Status.{Status}
-use Rattle.flux_top.specs.declared.status.Status.TheVariants.{Done}
-use Rattle.flux_top.specs.declared.refusal.Refusal.TheVariants.{WrongWords, LongScript, OtherScript, LongDocument, NoForest}
+use Rattle.flux_top.specs.declared.status.Status.TheVariants.{Done, Script, DocText}
+use Rattle.flux_top.specs.declared.refusal.Refusal.TheVariants.{WrongWords, OtherScript, LongDocument, NoForest}
 
--- the most bytes of a script, and of a document
-abbrev pub script_limit : ℕ
-script_limit = 1048576
-
+-- the most bytes of a document
 abbrev pub document_limit : ℕ
 document_limit = 33554432
 
@@ -44,34 +43,34 @@ pub record AsksDeletion (held : Held) (words : List (List ℕ)) (steps : List (L
   pub within : length script ≤ script_limit
   pub deletes : DeletesPath script steps
 
--- the document spells no forest: the position is that of the end of its longest viable prefix
-pub record IsNoForest (document : List ℕ) (p : Position) : Type 0 where
-  pub place : ℕ
-  pub none : IsNoDocument document place
-  pub position : IsPosition document place p
+-- the line of a document that spells no forest: where its longest viable prefix ends
+abbrev pub no_forest_line : List ℕ → ℕ → List ℕ
+no_forest_line document place =
+    line_of (NoForest (line_of_place document place) (column_of_place document place))
 
 -- Answer held words status output line: the status, the bytes of the output, the line of a refusal
 pub data Answer (held : Held) (words : List (List ℕ)) : Status → List ℕ → List ℕ → Type 0 where
   -- the words are of no form
   usage : form words ≡ None →
       Answer held words (status_of WrongWords) [] (line_of WrongWords)
-  -- the script is over its limit; it is within it, and deletes no path
-  long_script : {script : List ℕ} →
-      NamesScript held words script → script_limit < length script →
-      Answer held words (status_of LongScript) [] (line_of LongScript)
-  other_script : {script : List ℕ} →
+  -- the script has a fault
+  faulty_script : {script : List ℕ} (fault : ScriptFault) →
+      NamesScript held words script → IsScriptFault script fault →
+      Answer held words Script [] (script_text script fault)
+  -- it has a reading, and deletes no path
+  other_script : {script : List ℕ} {tree : Tree} {texts : List (List ℕ)} →
       NamesScript held words script → length script ≤ script_limit →
-      ((steps : List (List ℕ)) → ¬ (DeletesPath script steps)) →
+      IsScriptOf script tree texts → DeletesNone tree →
       Answer held words (status_of OtherScript) [] (line_of OtherScript)
   -- the document is over its limit; it is within it, and spells no forest
   long_document : {steps : List (List ℕ)} {document : List ℕ} →
       AsksDeletion held words steps → NamesDocument held words document →
       document_limit < length document →
       Answer held words (status_of LongDocument) [] (line_of LongDocument)
-  no_forest : {steps : List (List ℕ)} {document : List ℕ} {p : Position} →
+  no_forest : {steps : List (List ℕ)} {document : List ℕ} {place : ℕ} →
       AsksDeletion held words steps → NamesDocument held words document →
-      length document ≤ document_limit → IsNoForest document p →
-      Answer held words (status_of (NoForest p)) [] (line_of (NoForest p))
+      length document ≤ document_limit → IsNoDocument document place →
+      Answer held words DocText [] (no_forest_line document place)
   -- else the output is the canonical text of the forest that is derived, and a newline
   done : {document : List ℕ} {names : List (List ℕ)} (path : List ℕ) {v w : Plain} →
       AsksDeletion held words (map (name_text names) path) → NamesDocument held words document →

@@ -8,12 +8,13 @@ use Rattle.flux_doctext.specs.Spells.{Spells}
 use Rattle.flux_calculus.specs.Derives.{Derives}
 use Rattle.flux_top.specs.Words.{form}
 use Rattle.flux_top.specs.Paths.{standard, delete_on}
+use Rattle.flux_report.specs.declared.line.ScriptFault.{ScriptFault}
+use Rattle.flux_report.specs.Lines.{script_text, IsShown}
 use Rattle.flux_top.specs.Lines.{line_of}
 use Rattle.flux_top.specs.Answer.{NamesDocument, AsksDeletion, Answer, Lacking}
-use Rattle.flux_top.specs.declared.position.Position.{Position}
 use Rattle.flux_top.specs.declared.status.Status.{Status}
 use Rattle.flux_top.specs.declared.status.Status.TheVariants.{Done, Script, Usage, DocText, ReadFault, WriteFault, Memory}
-use Rattle.flux_top.specs.declared.refusal.Refusal.TheVariants.{WrongWords, LongScript, OtherScript, LongDocument, NoForest, NoRead, NoWrite}
+use Rattle.flux_top.specs.declared.refusal.Refusal.TheVariants.{WrongWords, OtherScript, LongDocument, NoForest, NoRead, NoWrite}
 
 -- the answer has this status
 abbrev pub Answers : Held → List (List ℕ) → Status → Type 0
@@ -78,15 +79,26 @@ Writes Is old new Usage = new ≡ old
 Writes Is old new DocText = new ≡ old
 Writes Is old new ReadFault = new ≡ old
 
+-- a line that tells a fault of some script, or that it isn't built yet
+abbrev pub IsScriptLine : List ℕ → Type 0
+IsScriptLine line =
+    ((bytes : List ℕ) × (fault : ScriptFault) × IsShown bytes fault
+    × (line ≡ script_text bytes fault))
+    ⊎ (line ≡ line_of OtherScript)
+
+-- a line that tells what is wrong with some document
+abbrev pub IsDocumentLine : List ℕ → Type 0
+IsDocumentLine text =
+    (text ≡ line_of LongDocument)
+    ⊎ ((line : ℕ) × (column : ℕ) × (text ≡ line_of (NoForest line column)))
+
 -- a line of that status, which is that of the answer where the folder tells what it holds
 abbrev pub IsLineOf : Option Held → List (List ℕ) → Status → List ℕ → Type 0
 IsLineOf holds words Usage line = line ≡ line_of WrongWords
 IsLineOf holds words Script line =
-    ((line ≡ line_of LongScript) ⊎ (line ≡ line_of OtherScript))
-    × IfSome holds (λ held. Answer held words Script [] line)
+    IsScriptLine line × IfSome holds (λ held. Answer held words Script [] line)
 IsLineOf holds words DocText line =
-    ((line ≡ line_of LongDocument) ⊎ ((p : Position) × (line ≡ line_of (NoForest p))))
-    × IfSome holds (λ held. Answer held words DocText [] line)
+    IsDocumentLine line × IfSome holds (λ held. Answer held words DocText [] line)
 IsLineOf holds words ReadFault line = line ≡ line_of NoRead
 IsLineOf holds words WriteFault line = line ≡ line_of NoWrite
 IsLineOf holds words Done line = ⊥

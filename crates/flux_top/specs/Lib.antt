@@ -1,5 +1,4 @@
 pub mod Script
-pub mod Positions
 pub mod Words
 pub mod Paths
 pub mod Lines

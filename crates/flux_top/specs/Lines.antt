@@ -1,10 +1,12 @@
 -- How a run ends, and the line that a refusal writes.
 use Rattle.std.specs.Prelude.{ℕ, List, [], ◌∷◌, ◌++◌, codes}
 use Rattle.std.specs.Fmt.{decimal}
+use Rattle.flux_report.specs.declared.line.ScriptFault.TheVariants.{TooLong}
+use Rattle.flux_report.specs.Lines.{script_text}
 use Rattle.flux_top.specs.declared.status.Status.{Status}
 use Rattle.flux_top.specs.declared.status.Status.TheVariants.{Done, Script, Usage, DocText, ReadFault, WriteFault, Memory}
 use Rattle.flux_top.specs.declared.refusal.Refusal.{Refusal}
-use Rattle.flux_top.specs.declared.refusal.Refusal.TheVariants.{WrongWords, LongScript, OtherScript, LongDocument, NoForest, NoRead, NoWrite, NoMemory}
+use Rattle.flux_top.specs.declared.refusal.Refusal.TheVariants.{WrongWords, LongScript, FaultyScript, OtherScript, LongDocument, NoForest, NoRead, NoWrite, NoMemory}
 
 -- the number of a status, with which the program ends
 abbrev pub number_of : Status → ℕ
@@ -20,9 +22,10 @@ number_of Memory = 8
 abbrev pub status_of : Refusal → Status
 status_of WrongWords = Usage
 status_of LongScript = Script
+status_of (FaultyScript line) = Script
 status_of OtherScript = Script
 status_of LongDocument = DocText
-status_of (NoForest p) = DocText
+status_of (NoForest line column) = DocText
 status_of NoRead = ReadFault
 status_of NoWrite = WriteFault
 status_of NoMemory = Memory
@@ -32,12 +35,13 @@ abbrev pub line_of : Refusal → List ℕ
 line_of WrongWords =
     codes "usage: flux check SCRIPT | run [--depth N] SCRIPT DOC | edits [--depth N] SCRIPT DOC"
     ++ codes " | core SCRIPT | trial [--seed N] BOOKS" ++ 10 ∷ []
-line_of LongScript = codes "script: longer than 1048576 bytes" ++ 10 ∷ []
+line_of LongScript = script_text [] TooLong
+line_of (FaultyScript line) = line.items
 line_of OtherScript = codes "script: not built yet" ++ 10 ∷ []
 line_of LongDocument = codes "document: longer than 33554432 bytes" ++ 10 ∷ []
-line_of (NoForest p) =
+line_of (NoForest line column) =
     codes "document:"
-    ++ (decimal p.line ++ (codes ":" ++ (decimal p.column ++ (codes ": no forest" ++ 10 ∷ []))))
+    ++ (decimal line ++ (codes ":" ++ (decimal column ++ (codes ": no forest" ++ 10 ∷ []))))
 line_of NoRead = codes "flux: read fault" ++ 10 ∷ []
 line_of NoWrite = codes "flux: write fault" ++ 10 ∷ []
 line_of NoMemory = codes "flux: out of memory" ++ 10 ∷ []

@@ -3,8 +3,6 @@
 
 mod delete;
 mod laws;
-mod path;
-mod position;
 mod refusal;
 mod run;
 mod script;

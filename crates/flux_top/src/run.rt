@@ -11,20 +11,20 @@ ghost use Rattle.flux_doctext.specs.Text.{text, name_text};
 ghost use Rattle.flux_top.specs.Script.{DeletesPath};
 ghost use Rattle.flux_doctext.specs.Spells.{Spells};
 ghost use Rattle.flux_top.specs.Words.{texts, form};
-ghost use Rattle.flux_top.specs.Answer.{Lacking, IsNoForest};
+ghost use Rattle.flux_top.specs.Answer.{Lacking};
 ghost use Rattle.flux_top.specs.Clauses.{IsStatus, IsComplete, IsOutput, Writes, ReadsBack, Shows};
-ghost use Rattle.flux_top.specs.Prepare.{IsFileRefusal, IsEarlyRefusal};
+ghost use Rattle.flux_top.specs.Prepare.{IsFileRefusal, IsNoForest, IsEarlyRefusal};
 
 use crate::Status;
 use crate::delete::deleted;
-use crate::path::read_path;
-use crate::position::{Position, position_of};
 use crate::refusal::{Refusal, refuse};
+use crate::script::read_script;
 use crate::words::file_names;
 use flux_atom::{Name, Names};
 use flux_doctext::{DocFault, read_document, write_forest};
 use flux_forest::Forest;
 use flux_io::{Fault, Folder, Refused, Sink, read_all, write_all};
+use flux_report::line_and_column;
 use std::alloc::{AllocError, Global};
 
 // The most bytes of a script.
@@ -63,13 +63,13 @@ fn read_forest(alloc: Global, document: Vec<u8>, names: &mut Names) -> Result<Fo
     ensures forest { IfOk result (λ forest.
         (v : Plain) × (forest ≡ done v) × Spells names.new document.items v) }
     ensures refused { IfErr result (λ refusal. (refusal ≡ Refusal.NoMemory)
-        ⊎ ((p : Position) × (refusal ≡ Refusal.NoForest p) × IsNoForest document.items p)) }
+        ⊎ IsNoForest document.items refusal) }
 {
     match read_document(alloc, document.as_slice(), names) {
         Ok(forest) => Ok(forest),
         Err(DocFault::Text { place }) => {
-            let position = position_of(document.as_slice(), place);
-            Err(Refusal::NoForest(position))
+            let (line, column) = line_and_column(document.as_slice(), place);
+            Err(Refusal::NoForest(line, column))
         }
         Err(DocFault::Memory(_)) => Err(Refusal::NoMemory),
     }
@@ -112,7 +112,7 @@ fn prepare<F: Folder>(alloc: Global, words: &[String], folder: &mut F) -> Result
     };
     let mut names = Names::new(alloc);
     let script = read_file(alloc, folder, script, SCRIPT_LIMIT, Refusal::LongScript)?;
-    let path = read_path(alloc, script.as_slice(), &mut names)?;
+    let path = read_script(alloc, script.as_slice(), &mut names)?;
     let document = read_file(
         alloc,
         folder,

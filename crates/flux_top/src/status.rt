@@ -7,7 +7,7 @@ ghost use Rattle.flux_top.specs.Lines.{number_of};
 pub enum Status {
     /// All was read to its end, and all was written.
     Done = 0,
-    /// The script is over its limit, or of no form that is built.
+    /// The script is over its limit, has no reading, or isn't built yet.
     Script = 1,
     /// The words are of no form.
     Usage = 2,

@@ -15,7 +15,7 @@ struct Ended {
 const USAGE: &str = "usage: flux check SCRIPT | run [--depth N] SCRIPT DOC \
     | edits [--depth N] SCRIPT DOC | core SCRIPT | trial [--seed N] BOOKS\n";
 
-const SCRIPT: &str = "DELETE lib/book";
+const SCRIPT: &str = "INPUT lib[book[string]*,cd[string]] DO DELETE lib/book";
 
 const DOCUMENT: &str = "lib[book[\"A\"],cd[\"B\"]]";
 
@@ -68,47 +68,163 @@ fn run(alloc: Global, script: &str, document: &str) -> Result<Ended, AllocError>
     )
 }
 
-// The first lines of the work: what is written, and what is refused.
+// Whether the program answers this to these files.
+fn answers(
+    alloc: Global,
+    (script, document): (&str, &str),
+    status: Status,
+    out: &str,
+    err: &str,
+) -> Result<bool, AllocError> {
+    let ended = run(alloc, script, document)?;
+    Ok(
+        ended.status == status
+            && ended.out.bytes() == out.as_bytes()
+            && ended.err.bytes() == err.as_bytes(),
+    )
+}
+
 #[test]
 fn runs(rt: HostRuntime) -> Result<(), Fail> {
     let table = [
-        (SCRIPT, DOCUMENT, Status::Done, RESULT, ""),
-        ("DELETE a", "()", Status::Done, "()\n", ""),
-        (SCRIPT, "lib[ ]", Status::Done, "lib[]\n", ""),
+        (SCRIPT, DOCUMENT, RESULT),
+        (SCRIPT, "lib[ ]", "lib[]\n"),
+        (SCRIPT, "lib[book[\"A\"],cd[\"B\"]]\n", RESULT),
+        ("INPUT a[]* DO DELETE a", "()", "()\n"),
+        ("INPUT a[] DO DELETE a", " a [ \"x\" ] , b[] \n", "b[]\n"),
+        // what may stand before and behind a deletion
+        ("INPUT a[] DO DELETE a;", "a[],b[]", "b[]\n"),
+        ("INPUT a[] DO DELETE a # the end", "a[],b[]", "b[]\n"),
         (
-            "DELETE a",
-            " a [ \"x\" ] , b[] \n",
-            Status::Done,
+            "# a\n INPUT\ta[]\r\nDO # b\n\nDELETE a / b\n",
+            "a[b[],c[]]",
+            "a[c[]]\n",
+        ),
+        ("INPUT(a[]|b[])+DO DELETE a", "a[],b[]", "b[]\n"),
+        ("INPUT a[] OUTPUT () DO DELETE a", "a[],b[]", "b[]\n"),
+        ("TYPE A=a[A*]; INPUT A DO DELETE a", "a[],b[]", "b[]\n"),
+        ("INPUT Unknown DO DELETE a", "a[],b[]", "b[]\n"),
+        (
+            "PROCEDURE p($x:int):a[]=>b[]{SKIP} INPUT a[] DO DELETE a",
+            "a[],b[]",
             "b[]\n",
-            "",
         ),
         (
-            "SKIP",
-            DOCUMENT,
-            Status::Script,
-            "",
-            "script: not built yet\n",
+            "TYPE A=a[A*]; TYPE B=b[B*]; PROCEDURE strip() : A* => B* { UPDATE a/. BY \
+                CALL strip(); RENAME a TO b } INPUT A* OUTPUT B* DO DELETE b/a;",
+            "a[b[a[]]],b[b[],a[]]",
+            "a[b[a[]]],b[b[]]\n",
+        ),
+        // labels of all kinds
+        ("INPUT a[] DO DELETE 'a'", "a[],b[]", "b[]\n"),
+        (
+            "INPUT a[] DO DELETE 'for'/'DELETE'",
+            "for[DELETE[],a[]]",
+            "for[a[]]\n",
+        ),
+        ("INPUT a[] DO DELETE any", "any[],b[]", "b[]\n"),
+        (
+            "INPUT a[] DO DELETE string/bool/int/child",
+            "string[bool[int[child[]]]]",
+            "string[bool[int[]]]\n",
         ),
         (
-            "SKIP",
-            "lib[ ]",
-            Status::Script,
-            "",
-            "script: not built yet\n",
-        ),
-        (
-            "DELETE lib/book\n",
-            "lib[book[\"A\"],cd[\"B\"]]\n",
-            Status::Done,
-            RESULT,
-            "",
+            "INPUT a[] DO DELETE a-1/_b.2",
+            "a-1[_b.2[],b[]]",
+            "a-1[b[]]\n",
         ),
     ];
-    for (script, document, status, out, err) in table {
-        let ended = run(rt.alloc(), script, document)?;
-        assert_eq!(rt; ended.status, status, "{script} on {document}");
-        assert_eq!(rt; ended.out.bytes(), out.as_bytes(), "{script} on {document}");
-        assert_eq!(rt; ended.err.bytes(), err.as_bytes(), "{script} on {document}");
+    for (script, document, out) in table {
+        let right = answers(rt.alloc(), (script, document), Status::Done, out, "")?;
+        assert!(rt; right, "{script} on {document}");
+    }
+    Ok(())
+}
+
+// Scripts that have no reading, and bytes that are no tokens: the first place of which no script
+// goes on.
+#[test]
+fn refuses_faulty_scripts(rt: HostRuntime) -> Result<(), Fail> {
+    let alloc = rt.alloc();
+    let table = [
+        ("DELETE lib/book", "1:1: Syntax"),
+        ("INPUT a[] DO", "1:13: Syntax"),
+        ("INPUT a[] DO DELETE a @", "1:23: Bad"),
+        ("INPUT INPUT @", "1:13: Bad"),
+        ("", "1:1: Syntax"),
+        ("\n", "2:1: Syntax"),
+        ("SKIP", "1:1: Syntax"),
+        ("input a[] DO DELETE a", "1:1: Syntax"),
+        ("INPUT a[ DO DELETE a", "1:10: Syntax"),
+        ("INPUT any DO SKIP", "1:11: Syntax"),
+        ("INPUT a[] OUTPUT DO DELETE a", "1:18: Syntax"),
+        ("TYPE A=a[] INPUT A DO DELETE a", "1:12: Syntax"),
+        ("TYPE any=a[]; INPUT a[] DO SKIP", "1:6: Syntax"),
+        ("INPUT a[] DO DELETE", "1:20: Syntax"),
+        ("INPUT a[] DO delete a", "1:14: Syntax"),
+        ("INPUT a[] DO DELETE /a", "1:21: Syntax"),
+        ("INPUT a[] DO DELETE 9", "1:21: Syntax"),
+        ("INPUT a[] DO DELETE child(", "1:26: Syntax"),
+        ("INPUT a[] DO DELETE a/", "1:23: Syntax"),
+        ("INPUT a[] DO DELETE a b", "1:23: Syntax"),
+        ("INPUT a[] DO DELETE a;;", "1:23: Syntax"),
+        ("INPUT a[] DO\nDELETE a//b", "2:10: Syntax"),
+        ("INPUT a[] DO DELETE a WHERE", "1:28: Syntax"),
+        ("INPUT a[] DO { DELETE a", "1:24: Syntax"),
+        ("INPUT a[] DO DELETE a/-b", "1:24: Bad"),
+        ("INPUT a[] DO DELETE é", "1:21: Bad"),
+        ("INPUT a[] DO DELETE 'true'", "1:26: Bad"),
+        ("INPUT a[] DO\n\nDELETE a!", "3:9: Bad"),
+    ];
+    for (script, fault) in table {
+        let line = format!(in alloc; "script:{fault}\n")?;
+        let right = answers(alloc, (script, DOCUMENT), Status::Script, "", line.as_str())?;
+        assert!(rt; right, "{script}");
+    }
+    Ok(())
+}
+
+// Scripts that have a reading and aren't run yet.
+#[test]
+fn refuses_other_scripts(rt: HostRuntime) -> Result<(), Fail> {
+    let alloc = rt.alloc();
+    let table = [
+        "SKIP",
+        "DELETE a WHERE true",
+        "DELETE FROM a",
+        "DELETE a; DELETE b",
+        "DELETE a; SKIP",
+        "SKIP; DELETE a",
+        "DELETE a[true]",
+        "DELETE a/b[$x = 1]/c",
+        "DELETE $x AS a",
+        "DELETE a/$x AS b",
+        "DELETE *",
+        "DELETE a/*",
+        "DELETE .",
+        "DELETE a/.",
+        "DELETE a/string()",
+        "DELETE bool()",
+        "DELETE int()/a",
+        "{ DELETE a }",
+        "UPDATE a BY DELETE b",
+        "IF true THEN DELETE a ELSE DELETE b",
+        "LET $x = 1 IN DELETE a",
+        "INSERT VALUE b[]",
+        "INSERT BEFORE a VALUE 1",
+        "INSERT AFTER a VALUE 1",
+        "INSERT AS FIRST INTO a VALUE b[]",
+        "INSERT AS LAST INTO a VALUE b[]",
+        "RENAME a TO b",
+        "REPLACE a WITH b[]",
+        "REPLACE IN a WITH \"x\"",
+        "CALL p()",
+    ];
+    for body in table {
+        let script = format!(in alloc; "INPUT a[] DO {body}")?;
+        let files = (script.as_str(), DOCUMENT);
+        let right = answers(alloc, files, Status::Script, "", "script: not built yet\n")?;
+        assert!(rt; right, "{body}");
     }
     Ok(())
 }
@@ -174,7 +290,7 @@ fn reads_documents(rt: HostRuntime) -> Result<(), Fail> {
         ("-", Status::DocText, "", "document:1:2: no forest\n"),
     ];
     for (document, status, out, err) in table {
-        let ended = run(rt.alloc(), "DELETE x", document)?;
+        let ended = run(rt.alloc(), "INPUT x[] DO DELETE x", document)?;
         assert_eq!(rt; ended.status, status, "{document}");
         assert_eq!(rt; ended.out.bytes(), out.as_bytes(), "{document}");
         assert_eq!(rt; ended.err.bytes(), err.as_bytes(), "{document}");
@@ -212,66 +328,42 @@ fn deletes_what_the_path_leads_to(rt: HostRuntime) -> Result<(), Fail> {
         // a label that another begins with, and quoted signs
         ("DELETE a", "ab[],a-b[],a[],\"a[]\"", "ab[],a-b[],\"a[]\"\n"),
     ];
-    for (script, document, out) in table {
-        let ended = run(rt.alloc(), script, document)?;
-        assert_eq!(rt; ended.status, Status::Done, "{script} on {document}");
-        assert_eq!(rt; ended.out.bytes(), out.as_bytes(), "{script} on {document}");
+    for (deletion, document, out) in table {
+        let script = format!(in rt.alloc(); "INPUT any[]* DO {deletion}")?;
+        let files = (script.as_str(), document);
+        let right = answers(rt.alloc(), files, Status::Done, out, "")?;
+        assert!(rt; right, "{deletion} on {document}");
     }
     Ok(())
 }
 
+// Each word of the language is no label of a path, but is one between quotes, and begins others;
+// `true` and `false` aren't labels at all.
 #[test]
-fn refuses_other_scripts(rt: HostRuntime) -> Result<(), Fail> {
-    let table = [
-        "",
-        "\n",
-        "DELETE",
-        "DELETE ",
-        "DELETE \n",
-        "DELETE a\n\n",
-        "DELETE a\r\n",
-        "DELETE  a",
-        "DELETE a ",
-        "delete a",
-        " DELETE a",
-        "DELETE\ta",
-        "DELETE a/",
-        "DELETE /a",
-        "DELETE a//b",
-        "DELETE a/b/",
-        "DELETE a b",
-        "DELETE 9",
-        "DELETE a/-b",
-        "DELETE 'a'",
-        "DELETE a;",
-        "DELETE é",
-        "DELETE a#",
-        "DELETE a/*",
-    ];
-    for script in table {
-        let ended = run(rt.alloc(), script, DOCUMENT)?;
-        assert_eq!(rt; ended.status, Status::Script, "{script}");
-        assert_eq!(rt;
-            ended.err.bytes(),
-            b"script: not built yet\n".as_slice(),
-            "{script}"
-        );
-    }
-    Ok(())
-}
-
-#[test]
-fn refuses_reserved_words(rt: HostRuntime) -> Result<(), Fail> {
+fn tells_words_from_labels(rt: HostRuntime) -> Result<(), Fail> {
+    let alloc = rt.alloc();
     let words = "TYPE PROCEDURE INPUT OUTPUT DO SKIP INSERT BEFORE AFTER AS FIRST LAST INTO VALUE \
         DELETE FROM RENAME TO REPLACE IN WITH UPDATE BY IF THEN ELSE LET CALL WHERE for in return \
         let if then else true false";
     for word in words.split(' ') {
-        let script = format!(in rt.alloc(); "DELETE a/{word}")?;
-        let ended = run(rt.alloc(), script.as_str(), DOCUMENT)?;
-        assert_eq!(rt; ended.status, Status::Script, "{word}");
-        let script = format!(in rt.alloc(); "DELETE a/{word}s")?;
-        let ended = run(rt.alloc(), script.as_str(), DOCUMENT)?;
+        let script = format!(in alloc; "INPUT a[] DO DELETE a/{word}")?;
+        let ended = run(alloc, script.as_str(), DOCUMENT)?;
+        assert_eq!(rt;
+            ended.err.bytes(),
+            b"script:1:23: Syntax\n".as_slice(),
+            "{word}"
+        );
+        let script = format!(in alloc; "INPUT a[] DO DELETE a/{word}s")?;
+        let ended = run(alloc, script.as_str(), DOCUMENT)?;
         assert_eq!(rt; ended.status, Status::Done, "{word}s");
+        let script = format!(in alloc; "INPUT a[] DO DELETE a/'{word}'")?;
+        let ended = run(alloc, script.as_str(), DOCUMENT)?;
+        let line = match word {
+            "true" => "script:1:28: Bad\n",
+            "false" => "script:1:29: Bad\n",
+            _ => "",
+        };
+        assert_eq!(rt; ended.err.bytes(), line.as_bytes(), "'{word}'");
     }
     Ok(())
 }
@@ -332,12 +424,13 @@ fn ends_where_a_call_of_the_folder_fails(rt: HostRuntime) -> Result<(), Fail> {
 #[test]
 fn ends_where_a_file_is_missing(rt: HostRuntime) -> Result<(), Fail> {
     let alloc = rt.alloc();
-    let table: [(&str, &str, &str, Status); 4] = [
+    let table: [(&str, &str, &str, Status); 5] = [
         (SCRIPT, "s", "x", Status::ReadFault),
         (SCRIPT, "x", "d", Status::ReadFault),
         // the script is judged before the document's turn comes
-        ("SKIP", "s", "x", Status::Script),
-        ("SKIP", "x", "x", Status::ReadFault),
+        ("INPUT a[] DO SKIP", "s", "x", Status::Script),
+        ("DELETE a", "s", "x", Status::Script),
+        ("DELETE a", "x", "x", Status::ReadFault),
     ];
     for (script, script_name, document_name, status) in table {
         let folder = folder(alloc, script.as_bytes(), DOCUMENT.as_bytes(), 0)?;
@@ -369,7 +462,7 @@ fn ends_where_a_sink_is_full(rt: HostRuntime) -> Result<(), Fail> {
     assert_eq!(rt; ended.out.bytes(), b"lib[".as_slice());
     assert_eq!(rt; ended.err.bytes(), b"flux: write fault\n".as_slice());
     // a line that doesn't fit changes no status
-    let files = folder(alloc, b"SKIP", DOCUMENT.as_bytes(), 0)?;
+    let files = folder(alloc, b"INPUT a[] DO SKIP", DOCUMENT.as_bytes(), 0)?;
     let ended = end(
         alloc,
         &["run", "s", "d"],
@@ -382,10 +475,10 @@ fn ends_where_a_sink_is_full(rt: HostRuntime) -> Result<(), Fail> {
     Ok(())
 }
 
-// A `DELETE` of one long label, of this many bytes in all.
+// A deletion of one long label, of this many bytes in all.
 fn long_script(alloc: Global, length: usize) -> Result<Vec<u8>, AllocError> {
     let mut script = Vec::from_elem(alloc, b'a', length)?;
-    for (byte, letter) in script.iter_mut().zip(b"DELETE ".iter()) {
+    for (byte, letter) in script.iter_mut().zip(b"INPUT a[] DO DELETE ".iter()) {
         *byte = *letter;
     }
     Ok(script)

@@ -10,7 +10,7 @@ use Rattle.flux_calculus.specs.Derives.{Derives}
 use Rattle.flux_top.specs.Paths.{standard, delete_on}
 use Rattle.flux_top.specs.Words.{texts}
 use Rattle.flux_top.specs.Script.{DeletesPath}
-use Rattle.flux_top.proofs.Preparing.{rose_later, refusal_later, early_script, early_path, early_document, early_forest, asks, prepared, steps_stay}
+use Rattle.flux_top.proofs.Preparing.{rose_later, refusal_later, early_script, early_reading, early_document, early_forest, asks, prepared, steps_stay}
 use Rattle.flux_doctext.proofs.LabelLaws.{spelled_over}
 use Rattle.flux_top.proofs.run.prepare.Goals as goal
 use Rattle.flux_top.proofs.run.prepare.Goals.{After-as_slice, In_ok-path, In_ok-document, In_ok-forest}
@@ -31,13 +31,13 @@ pub returns-in_err-path-clause-refused : goal.returns-in_err-path-clause-refused
 returns-in_err-path-clause-refused g c =
     let p = err_from_is_err_and c.from_residual-in_err-path.result c.from_residual-in_err-path.ensures.1 in
     let before = (goal.at.returns-in_err-path-clause-refused g c).After-as_slice in
-    rw (p.1, p.2) (early_path (texts c.args.words.now) _ _ c.in-Some.ensures _ _ _ c.as_slice.result.now (there g before) (within g before) c.in_err-path.ensures.refused)
+    rw (p.1, p.2) (early_reading (texts c.args.words.now) _ _ c.in-Some.ensures _ _ _ c.as_slice.result.now (there g before) (within g before) c.in_err-path.ensures.refused)
 
 pub returns-in_err-document-clause-refused : goal.returns-in_err-document-clause-refused
 returns-in_err-document-clause-refused g c =
     let p = err_from_is_err_and c.from_residual-in_err-document.result c.from_residual-in_err-document.ensures.1 in
     let before = (goal.at.returns-in_err-document-clause-refused g c).After-as_slice in
-    let asked = asks (texts c.args.words.now) _ _ c.in-Some.ensures _ c.as_slice.result.now (map (name_text c.read_path.new.names) c.in_ok-path.path.items) (there g before) (within g before) c.in_ok-path.ensures.path in
+    let asked = asks (texts c.args.words.now) _ _ c.in-Some.ensures _ c.as_slice.result.now (map (name_text c.read_script.new.names) c.in_ok-path.path.items) (there g before) (within g before) c.in_ok-path.ensures.path in
     rw (p.1, p.2) (early_document (texts c.args.words.now) _ _ c.in-Some.ensures _ _ _ _ asked (refusal_later _ _ _ _ _ _ _ _ c.read_file.ensures.same (rose_later _ _ _ c.read_file.ensures.later) c.in_err-document.ensures.refused))
 
 -- the document that is there, as the folder was when the run began
@@ -50,7 +50,7 @@ returns-in_err-forest-clause-refused g c =
     let p = err_from_is_err_and c.from_residual-in_err-forest.result c.from_residual-in_err-forest.ensures.1 in
     let before = (goal.at.returns-in_err-forest-clause-refused g c).After-as_slice in
     let read = (goal.at.returns-in_err-forest-clause-refused g c).In_ok-document in
-    let asked = asks (texts c.args.words.now) _ _ c.in-Some.ensures _ c.as_slice.result.now (map (name_text c.read_path.new.names) c.in_ok-path.path.items) (there g before) (within g before) c.in_ok-path.ensures.path in
+    let asked = asks (texts c.args.words.now) _ _ c.in-Some.ensures _ c.as_slice.result.now (map (name_text c.read_script.new.names) c.in_ok-path.path.items) (there g before) (within g before) c.in_ok-path.ensures.path in
     rw (p.1, p.2) (early_forest (texts c.args.words.now) _ _ c.in-Some.ensures _ _ _ _ c.in_ok-document.document.items asked (document_there g read) c.in_ok-document.ensures.within c.in_err-forest.ensures.refused)
 
 pub result_text-requires-clause-known : goal.result_text-requires-clause-known
@@ -64,7 +64,7 @@ returns-in-Ok-clause-output g c =
     let read = (goal.at.returns-in-Ok-clause-output g c).In_ok-document in
     let grown = c.read_forest.ensures.grown in
     let deletes : DeletesPath c.as_slice.result.now (map (name_text c.read_forest.new.names) c.in_ok-path.path.items) =
-    subst (λ (l : List (List ℕ)). DeletesPath c.as_slice.result.now (map (name_text l) c.in_ok-path.path.items)) (sym grown.1) (steps_stay _ _ grown.0 _ c.in_ok-path.ensures.path) in
+    subst (λ (l : List (List ℕ)). DeletesPath c.as_slice.result.now (map (name_text l) c.in_ok-path.path.items)) (sym grown.1) (steps_stay _ _ grown.0 _ c.in_ok-path.ensures.known c.in_ok-path.ensures.path) in
     let asked = asks (texts c.args.words.now) _ _ c.in-Some.ensures _ c.as_slice.result.now (map (name_text c.read_forest.new.names) c.in_ok-path.path.items) (there g before) (within g before) deletes in
     let read_as = c.in_ok-forest.ensures.forest in
     let made = c.in-Ok.ensures in
