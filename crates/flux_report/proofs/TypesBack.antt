@@ -98,4 +98,4 @@ of_same texts defs t u bytes e r = record {
 pub types_read_back : TypesReadBack
 types_read_back texts defs t can =
     of_same texts defs t (tidy t) (text_of texts defs (tidy t)) (tidy-members defs t)
-    (text_reads_back texts defs can.good.names can.names (tidy t) (tidy_writable (length texts) defs t can.written) (tidy_labels texts t can.labels) can.levels)
+    (text_reads_back texts defs can.differ can.names (tidy t) (tidy_writable (length texts) defs t can.written) (tidy_labels texts t can.labels) can.levels)

@@ -1,16 +1,16 @@
 -- A type that is printed reads back.
 use Rattle.std.specs.Prelude.{◌≡◌, ◌≢◌, ◌<◌, ℕ, ◌+◌, max, Bool, false, List, All, Some, length, codes, if◌then◌else◌}
-use Rattle.flux_atom.specs.Names.{IsName, IsLabel, IsTable}
+use Rattle.flux_atom.specs.Names.{IsName, IsLabel}
 use Rattle.flux_atom.specs.Reserved.{is_reserved}
 use Rattle.flux_grammar.specs.declared.token.Token.{Token}
 use Rattle.flux_grammar.specs.declared.tree.TypeText.{TypeText}
 use Rattle.flux_grammar.specs.Grammar.{limit, type}
 use Rattle.flux_grammar.specs.Tokens.{AreTokens}
 use Rattle.flux_grammar.specs.TypeOf.{type_of}
-use Rattle.flux_schema.specs.Definitions.{Definitions, IsGood, names_of}
+use Rattle.flux_schema.specs.Definitions.{Definitions, Differ, names_of}
 use Rattle.flux_schema.specs.Member.{SameMembers}
 use Rattle.flux_schema.specs.Tidy.{tidy}
-use Rattle.flux_schema.specs.Ty.{Ty, empty, atom, element, any_element, seq, alt, star, named, NamesBelow}
+use Rattle.flux_schema.specs.Ty.{Ty, empty, atom, element, any_element, seq, alt, star, named}
 use Rattle.flux_schema.specs.TypeText.{IsWritable, is_choice, is_empty, is_list, name_text, text_of}
 use Rattle.flux_syntax.specs.Learnt.{learnt}
 use Rattle.flux_syntax.specs.Trees.{IsTree}
@@ -48,13 +48,11 @@ depth (alt t u) = max (depth t) (depth u)
 depth (star t) = enclosing (is_list t) (depth t)
 depth (named x) = 0
 
--- the type can be written so that it is read: over a table of names its labels are labels, the
--- names of definitions can be names of types, and its text needs no more levels than may lie inside
--- one another
+-- the type can be written so that it is read: its labels and the names of definitions stand in the
+-- table of names, its labels are labels, the names of definitions differ and can be names of types,
+-- and its text needs no more levels than may lie inside one another
 pub record CanBeRead (texts : List (List ℕ)) (defs : Definitions) (t : Ty) : Type 0 where
-  pub table : IsTable texts
-  pub good : IsGood defs
-  pub known : NamesBelow (length defs) t
+  pub differ : Differ (names_of defs)
   pub written : IsWritable (length texts) defs t
   pub labels : HasLabels texts t
   pub names : All (λ n. IsTypeName (name_text texts n)) (names_of defs)
