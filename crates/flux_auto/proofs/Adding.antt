@@ -9,7 +9,7 @@ use Rattle.flux_trees.specs.Draft.{Draft, outer}
 use Rattle.flux_schema.specs.Ty.{Ty}
 use Rattle.flux_schema.specs.Member.{Member}
 use Rattle.flux_schema.specs.Definitions.{Definitions}
-use Rattle.flux_schema.specs.Labels.{IsLabelOf, IsGiven, IsLabelledBy}
+use Rattle.flux_schema.specs.Labels.{IsLabelOf, IsGiven}
 use Rattle.flux_types.specs.Read.{ty_of}
 use Rattle.flux_auto.specs.declared.table.Table.{Table}
 use Rattle.flux_auto.specs.declared.auto.Added.{Added}

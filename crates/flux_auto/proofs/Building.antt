@@ -5,10 +5,10 @@ use Rattle.flux_atom.specs.declared.atom.AtomKind.{AtomKind}
 use Rattle.flux_trees.specs.Hedge.{Plain, nil, elem, leaf, size}
 use Rattle.flux_trees.specs.Draft.{Draft, done, depth, add, begin, end}
 use Rattle.flux_trees.proofs.DraftLaws.{add-nil, add-add, depth-add, depth-begin, depth-end, end-begin}
-use Rattle.flux_auto.specs.declared.witness.Recipe.{Recipe}
-use Rattle.flux_auto.specs.declared.witness.Recipe.TheVariants.{End, Atom, Elem}
-use Rattle.flux_auto.specs.declared.build.Task.{Task}
-use Rattle.flux_auto.specs.declared.build.Task.TheVariants.{Write, Close}
+use Rattle.flux_auto.specs.declared.recipe.Recipe.{Recipe}
+use Rattle.flux_auto.specs.declared.recipe.Recipe.TheVariants.{End, Atom, Elem}
+use Rattle.flux_auto.specs.declared.recipe.Task.{Task}
+use Rattle.flux_auto.specs.declared.recipe.Task.TheVariants.{Write, Close}
 use Rattle.flux_auto.specs.Witness.{sample, forest_at, forests, IsOlder}
 use Rattle.flux_auto.proofs.Recipes.{forest-made}
 

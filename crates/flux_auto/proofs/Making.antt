@@ -11,7 +11,7 @@ use Rattle.flux_auto.specs.declared.table.Cell.{Cell}
 use Rattle.flux_auto.specs.declared.table.Row.{Row}
 use Rattle.flux_auto.specs.declared.table.Table.{Table}
 use Rattle.flux_auto.specs.Takes.{EdgesBelow}
-use Rattle.flux_auto.specs.Standing.{In, at, lists, FollowsAny, TellsEmpty, Ready, IsContent, IsHeadLabel, IsTableLabel, EdgesLabelled}
+use Rattle.flux_auto.specs.Standing.{In, at, lists, FollowsAny, TellsEmpty, Ready, IsContent, EdgesLabelled}
 use Rattle.flux_auto.specs.Built.{Grows, Put, IsEven, IsGround, IsClosed, FreshFrom, Registered, PutContent, ClosedBelow, IsComplete, IsBegun, NoNewLabels, LabelsOfBodies, LabelsMore, Extended}
 use Rattle.flux_auto.proofs.Lists.{end-in, in-end}
 use Rattle.flux_auto.proofs.Items.{some_is}

@@ -18,7 +18,7 @@ use Rattle.flux_auto.specs.Standing.{In, empties, TellsEmpty, at, lists, Follows
 use Rattle.flux_auto.specs.Built.{Grows, Put, IsSet, IsEven, IsGround, IsOwn, OwnFrom, NoNewLabels, Linear}
 use Rattle.flux_auto.proofs.Lists.{empties-sound, empties-complete, starts-empty, starts-atom, atom-starts, starts-element, element-starts, starts-any, any-starts, starts-seq, seq-starts_first, seq-starts_second, starts-alt, alt-starts_left, alt-starts_right, starts-star, star-starts, starts-name, name-starts, alone-in, in-alone}
 use Rattle.flux_auto.proofs.Items.{some_is, get-append, get-end}
-use Rattle.flux_auto.proofs.Tables.{at-grows, at-cell, edges-append, any-left, any-right, any-cases, Reads-grows, IsOwn-grows, Ready-grows, table_label-grows, labels-stand-grow, labelled-append}
+use Rattle.flux_auto.proofs.Tables.{at-grows, at-cell, edges-append, any-left, any-right, any-cases, Reads-grows, IsOwn-grows, Ready-grows, labels-stand-grow, labelled-append}
 use Rattle.flux_auto.proofs.Growing.{below_or_not, grows-length, carried}
 use Rattle.flux_auto.proofs.Contents.{put-cell}
 

@@ -19,8 +19,8 @@ use Rattle.flux_schema.proofs.SameLaws.{same_kind-same}
 use Rattle.flux_auto.specs.declared.edge.Edge.{Edge}
 use Rattle.flux_auto.specs.declared.edge.Edge.TheVariants as edge
 use Rattle.flux_auto.specs.declared.table.Row.{Row}
-use Rattle.flux_auto.specs.declared.witness.Recipe.{Recipe}
-use Rattle.flux_auto.specs.declared.witness.Recipe.TheVariants.{End, Atom, Elem}
+use Rattle.flux_auto.specs.declared.recipe.Recipe.{Recipe}
+use Rattle.flux_auto.specs.declared.recipe.Recipe.TheVariants.{End, Atom, Elem}
 use Rattle.flux_auto.specs.declared.witness.Witnesses.{Witnesses}
 use Rattle.flux_auto.specs.Takes.{State, has, goes_by_element, goes_by_atom, profile, takes}
 use Rattle.flux_auto.specs.Built.{state_of}
@@ -62,7 +62,7 @@ forest-grows rs qs i lt =
     let p = forests_after-more (forests rs) qs in
     ap (λ l. forest_at l i) (forests_after-append [] rs qs ∙ p.1) ∙ at_append (forests rs) p.0 i (omega (arith, lt, length-forests rs))
 
-forest-last : (rs : List Recipe) (r : Recipe) → forest_at (forests (rs ++ r ∷ [])) (length rs) ≡ made (forests rs) r
+pub forest-last : (rs : List Recipe) (r : Recipe) → forest_at (forests (rs ++ r ∷ [])) (length rs) ≡ made (forests rs) r
 forest-last rs r =
     ap (λ l. forest_at l (length rs)) (forests_after-append [] rs (r ∷ [])) ∙ ap (forest_at (forests rs ++ made (forests rs) r ∷ [])) (sym (length-forests rs)) ∙ at_end (forests rs) (made (forests rs) r) []
 
@@ -293,8 +293,8 @@ bare_of None e = refl
 bare_of (Some i) e = cc
 
 -- the labels of the forests are those of their recipes
-forests_labelled : (P : ℕ → Type 0) (hs : List Plain) (rs : List Recipe) → ((i : ℕ) → EachLabel P (forest_at hs i)) → ((i n a b : ℕ) → slice_get rs i ≡ Some (Elem n a b) → P n) → (i : ℕ) → EachLabel P (forest_at (forests_after hs rs) i)
-forests_labelled P hs [] old f = old
+pub forests_labelled : (P : ℕ → Type 0) (hs : List Plain) (rs : List Recipe) → ((i : ℕ) → EachLabel P (forest_at hs i)) → ((i n a b : ℕ) → slice_get rs i ≡ Some (Elem n a b) → P n) → (i : ℕ) → EachLabel P (forest_at (forests_after hs rs) i)
+forests_labelled P _ [] old f = old
 forests_labelled P hs (r ∷ rs) old f = forests_labelled P (hs ++ made hs r ∷ []) rs (more hs (made hs r) old (made_labelled r (λ n a b e. f 0 n a b (ap Some e)))) (λ i n a b e. f (suc i) n a b e)
   where
     made_labelled : (r : Recipe) → ((n a b : ℕ) → r ≡ Elem n a b → P n) → EachLabel P (made hs r)

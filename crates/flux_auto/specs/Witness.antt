@@ -12,8 +12,8 @@ use Rattle.flux_trees.specs.Each.{EachLabel}
 use Rattle.flux_auto.specs.declared.edge.Edge.{Edge}
 use Rattle.flux_auto.specs.declared.edge.Edge.TheVariants as edge
 use Rattle.flux_auto.specs.declared.table.Row.{Row}
-use Rattle.flux_auto.specs.declared.witness.Recipe.{Recipe}
-use Rattle.flux_auto.specs.declared.witness.Recipe.TheVariants.{End, Atom, Elem}
+use Rattle.flux_auto.specs.declared.recipe.Recipe.{Recipe}
+use Rattle.flux_auto.specs.declared.recipe.Recipe.TheVariants.{End, Atom, Elem}
 use Rattle.flux_auto.specs.declared.witness.Witnesses.{Witnesses}
 use Rattle.flux_auto.specs.Takes.{State, takes}
 use Rattle.flux_auto.specs.Built.{state_of}

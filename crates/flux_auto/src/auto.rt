@@ -8,11 +8,11 @@ ghost use Rattle.flux_types.specs.Read.{ty_of};
 
 use crate::Edge;
 use crate::arcs::Arcs;
-use crate::build::some_of;
 use crate::make::{begin, extend_or_stay};
 use crate::names::empty_names;
 use crate::run::is_taken;
 use crate::table::Table;
+use crate::worklist::some_of;
 use flux_atom::Name;
 use flux_forest::{Forest, View};
 use flux_types::{Defs, Ty, copy_of};

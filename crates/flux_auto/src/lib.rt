@@ -3,7 +3,6 @@
 
 mod arcs;
 mod auto;
-mod build;
 mod close;
 mod content;
 mod edge;
@@ -11,6 +10,7 @@ mod linear;
 mod make;
 mod names;
 mod profiles;
+mod recipe;
 mod run;
 mod sets;
 mod table;
@@ -19,6 +19,7 @@ mod worklist;
 
 pub use auto::{Auto, Start};
 pub use edge::Edge;
+pub use recipe::{Recipe, build};
 
 #[cfg(test)]
 mod tests;

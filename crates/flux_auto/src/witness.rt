@@ -3,17 +3,10 @@ ghost use Rattle.std.specs.Prelude.{◌≡◌, ◌<◌, ◌++◌, ◌∷◌, [],
 ghost use Rattle.flux_auto.specs.Witness.{place, element_by, recipe_by, IsRecipe, Lacks, Tried, Round, Knows};
 
 use crate::Edge;
+use crate::recipe::Recipe;
 use crate::table::Row;
-use flux_atom::{AtomKind, Name};
+use flux_atom::Name;
 use std::alloc::{AllocError, Global};
-
-// A forest: nothing, or a tree and the places of forests that were found before.
-#[derive(Clone, Copy)]
-pub(crate) enum Recipe {
-    End,
-    Atom(AtomKind, u64),
-    Elem(Name, u64, u64),
-}
 
 // The forests that were found, and of each state the place of one that it takes.
 #[derive(Drop)]

@@ -1,12 +1,15 @@
 // Forests for states, found along the edges: an edge is tried again when a state that it goes to
 // has got one.
-ghost use Rattle.std.specs.Prelude.{IfOk, IfSome, OnOk};
-ghost use Rattle.flux_auto.specs.Witness.{IsEdgeOf, Knows, Settled};
+ghost use Rattle.std.specs.Prelude.{IfOk, IfSome, OnOk, map};
+ghost use Rattle.flux_auto.specs.Built.{state_of};
+ghost use Rattle.flux_auto.specs.Witness.{IsEdgeOf, Knows, Settled, IsTakenBy};
 
 use crate::Edge;
+use crate::recipe::build;
 use crate::table::Row;
 use crate::witness::{Witnesses, add_more, add_one, edge_recipe, keep, no_places, place_of};
 use flux_atom::Name;
+use flux_forest::Forest;
 use std::alloc::{AllocError, Global};
 
 // An edge, by its state and its place among the edges of that state.
@@ -162,4 +165,21 @@ pub(crate) fn find_witnesses(
     find_along(alloc, rows, other, &mut known)?;
     while add_more(rows, other, &mut known)? {}
     Ok(known)
+}
+
+// A forest that a state takes, if it takes one.
+pub(crate) fn some_of(
+    alloc: Global,
+    rows: &[Row],
+    other: Name,
+    state: u64,
+) -> Result<Option<Forest>, AllocError>
+    ensures { IfOk result (IsTakenBy (map state_of rows.now) other state) }
+{
+    let known = find_witnesses(alloc, rows, other)?;
+    let Some(place) = place_of(&known.places, state) else {
+        return Ok(None);
+    };
+    let forest = build(alloc, &known.recipes, place)?;
+    Ok(Some(forest))
 }

@@ -12,7 +12,7 @@ use Rattle.flux_subtype.specs.declared.index.Move.{Move}
 use Rattle.flux_subtype.specs.declared.index.Link.{Link}
 use Rattle.flux_subtype.specs.declared.index.Group.{Group}
 use Rattle.flux_subtype.specs.declared.index.Index.{Index}
-use Rattle.flux_subtype.specs.Going.{Has, HasEdge, IsEdgeLabel}
+use Rattle.flux_subtype.specs.Going.{Has, HasEdge}
 use Rattle.flux_subtype.specs.Index.{Moves, Links, HasLink, HasGroup, moves_of, Listed, Differ, AreWide, AreWideLinks, AreWideGroups, IsWide, AddsMove, AddsLink, FindsLink, FindsGroup, AddsEdge, AddsEdges, IndexesBelow, Indexes, IndexesElements, Follows, ByLinks}
 use Rattle.flux_auto.proofs.Items.{get-end, get-set_here, get-set_other, some_is}
 use Rattle.flux_subtype.proofs.Items.{get-push, below_or_at, has-append, has-last, has-push, has-nil, has-right, has-split, has-set, set-has}

@@ -1,61 +1,27 @@
 -- What is kept stays kept, and forests stay what they are as more is kept.
-use Rattle.std.proofs.Common.{◌≡◌, ◌⊎◌, ℕ, ◌+◌, ◌<◌, List, [], ◌∷◌, ◌++◌, length, Bool, Some, slice_get, refl, sym, ap, subst, ◌∙◌, inl, inr, arith, append_assoc, length-append}
-use Rattle.std.proofs.lemmas.List.{append-nil}
-use Rattle.flux_trees.specs.Hedge.{Plain, elem, leaf}
+use Rattle.std.proofs.Common.{◌≡◌, ◌⊎◌, ℕ, ◌<◌, List, [], ◌∷◌, ◌++◌, length, Bool, Some, slice_get, sym, ap, subst, ◌∙◌, inl, inr, arith, length-append}
+use Rattle.std.proofs.lemmas.List.{length-map, map-append}
+use Rattle.flux_auto.specs.declared.recipe.Recipe.{Recipe}
 use Rattle.flux_auto.specs.Takes.{State}
-use Rattle.flux_subtype.specs.declared.kept.Recipe.{Recipe}
-use Rattle.flux_subtype.specs.declared.kept.Recipe.TheVariants.{Nothing, Leaf, Elem}
+use Rattle.flux_auto.specs.Witness.{made, forests, forest_at, IsOlder}
+use Rattle.flux_auto.proofs.Items.{get-append, get-end}
+use Rattle.flux_auto.proofs.Meaning.{get-map, get_of-map}
+use Rattle.flux_auto.proofs.Recipes.{forest-grows, forest-last}
 use Rattle.flux_subtype.specs.declared.kept.Kept.{Kept}
 use Rattle.flux_subtype.specs.Going.{IsProfile}
-use Rattle.flux_auto.specs.Witness.{sample}
-use Rattle.flux_subtype.specs.Kept.{forest_of, forest_in, made, forests_after, forest_at, set_of, set_at, NamesEarlier, AreKept, Grows, IsKept, IsFresh, Keeps}
-use Rattle.flux_auto.proofs.Items.{get-append, get-end, split_at}
+use Rattle.flux_subtype.specs.Kept.{recipes, forest_of, set_of, set_at, AreKept, Grows, IsKept, IsFresh, Keeps}
 use Rattle.flux_subtype.proofs.Items.{get-push, below_or_at, grows-refl, grows-get}
 
 -- ---- forests
 
-forests-append : (vs : List Plain) (ks ls : List Kept) → forests_after vs (ks ++ ls) ≡ forests_after (forests_after vs ks) ls
-forests-append vs [] ls = refl
-forests-append vs (k ∷ ks) ls = forests-append (vs ++ made vs k.from ∷ []) ks ls
+pub forest_of-append : (ks ls : List Kept) (i : ℕ) → i < length ks → forest_of (ks ++ ls) i ≡ forest_of ks i
+forest_of-append ks ls i h =
+    ap (λ rs. forest_at (forests rs) i) (map-append (λ (k : Kept). k.from) ks ls) ∙ forest-grows (recipes ks) (recipes ls) i (omega (arith, h, length-map ks (λ (k : Kept). k.from)))
 
-length-forests : (vs : List Plain) (ks : List Kept) → length (forests_after vs ks) ≡ length vs + length ks
-length-forests vs [] = omega arith
-length-forests vs (k ∷ ks) = omega (arith, length-forests (vs ++ made vs k.from ∷ []) ks, length-append vs (made vs k.from ∷ []))
-
-forests-more : (vs : List Plain) (ks : List Kept) → (more : List Plain) × (forests_after vs ks ≡ vs ++ more)
-forests-more vs [] = ([], sym (append-nil vs))
-forests-more vs (k ∷ ks) =
-    let p = forests-more (vs ++ made vs k.from ∷ []) ks in
-    (made vs k.from ∷ p.0, p.1 ∙ append_assoc vs (made vs k.from ∷ []) p.0)
-
-pub forest_at-append : (ks ls : List Kept) (i : ℕ) → i < length ks → forest_at (ks ++ ls) i ≡ forest_at ks i
-forest_at-append ks ls i h =
-    let p = forests-more (forests_after [] ks) ls in
-    ap (λ t. forest_in t i) (forests-append [] ks ls ∙ p.1) ∙ ap forest_of (get-append (forests_after [] ks) p.0 i (omega (arith, h, length-forests [] ks)))
-
-forest_at-last : (ks : List Kept) (k : Kept) → forest_at (ks ++ k ∷ []) (length ks) ≡ made (forests_after [] ks) k.from
-forest_at-last ks k =
-    ap (λ t. forest_in t (length ks)) (forests-append [] ks (k ∷ []))
-    ∙ ap (λ i. forest_in (forests_after [] ks ++ made (forests_after [] ks) k.from ∷ []) i) (let e : length ks ≡ length (forests_after [] ks) = omega (arith, length-forests [] ks) in e)
-    ∙ ap forest_of (get-end (forests_after [] ks) (made (forests_after [] ks) k.from) [])
-
-forest_at-end : (ks ls : List Kept) (k : Kept) → forest_at (ks ++ k ∷ ls) (length ks) ≡ made (forests_after [] ks) k.from
-forest_at-end ks ls k =
-    ap (λ l. forest_at l (length ks)) (sym (append_assoc ks (k ∷ []) ls))
-    ∙ forest_at-append (ks ++ k ∷ []) ls (length ks) (omega (arith, length-append ks (k ∷ [])))
-    ∙ forest_at-last ks k
-
-made-append : (ks ls : List Kept) (r : Recipe) → NamesEarlier (length ks) r → made (forests_after [] (ks ++ ls)) r ≡ made (forests_after [] ks) r
-made-append ks ls Nothing h = refl
-made-append ks ls (Leaf k r) h = ap (leaf tt (sample k)) (forest_at-append ks ls r h)
-made-append ks ls (Elem n c r) h = ap (λ v. elem tt n v (forest_at (ks ++ ls) r)) (forest_at-append ks ls c h.0) ∙ ap (elem tt n (forest_at ks c)) (forest_at-append ks ls r h.1)
-
-pub forest_at-recipe : (ks : List Kept) (i : ℕ) (k : Kept) → slice_get ks i ≡ Some k → NamesEarlier i k.from → forest_at ks i ≡ made (forests_after [] ks) k.from
-forest_at-recipe ks i k e h =
-    let p = split_at ks i k e in
-    ap (forest_at ks) (sym p.3) ∙ ap (λ l. forest_at l (length p.0)) p.2 ∙ forest_at-end p.0 p.1 k
-    ∙ sym (made-append p.0 (k ∷ p.1) k.from (subst (λ j. NamesEarlier j k.from) (sym p.3) h))
-    ∙ ap (λ l. made (forests_after [] l) k.from) (sym p.2)
+forest_of-last : (ks : List Kept) (k : Kept) → forest_of (ks ++ k ∷ []) (length ks) ≡ made (forests (recipes ks)) k.from
+forest_of-last ks k =
+    ap (λ rs. forest_at (forests rs) (length ks)) (map-append (λ (k : Kept). k.from) ks (k ∷ []))
+    ∙ ap (forest_at (forests (recipes ks ++ k.from ∷ []))) (sym (length-map ks (λ (k : Kept). k.from))) ∙ forest-last (recipes ks) k.from
 
 -- ---- one more
 
@@ -65,27 +31,27 @@ set_at-append ks ls i h = ap set_of (get-append ks ls i h)
 set_at-last : (ks : List Kept) (k : Kept) → set_at (ks ++ k ∷ []) (length ks) ≡ k.set
 set_at-last ks k = ap set_of (get-end ks k [])
 
-pub push : (a : List State) (ks : List Kept) (k : Kept) → AreKept a ks → NamesEarlier (length ks) k.from → IsProfile a k.set (made (forests_after [] ks) k.from)
+pub push : (a : List State) (ks : List Kept) (k : Kept) → AreKept a ks → IsOlder (length ks) k.from → IsProfile a k.set (made (forests (recipes ks)) k.from)
     → length k.set ≡ length a → IsFresh ks k.set → AreKept a (ks ++ k ∷ [])
 push a ks k are names is long fresh = record {
-  earlier = λ i l e. early i l (get-push ks k i l e);
+  older = λ i r e. let q = get_of-map (λ (k : Kept). k.from) (ks ++ k ∷ []) i r e in subst (IsOlder i) (sym q.2) (early i q.0 (get-push ks k i q.0 q.1));
   profiles = λ i h. right i (below_or_at i (length ks) (omega (arith, h, length-append ks (k ∷ []))));
   long = λ i h. wide i (below_or_at i (length ks) (omega (arith, h, length-append ks (k ∷ []))));
   apart = λ i j lt h. far i j lt (below_or_at j (length ks) (omega (arith, h, length-append ks (k ∷ []))));
 }
   where
-    early : (i : ℕ) (l : Kept) → ((i < length ks) × (slice_get ks i ≡ Some l)) ⊎ ((i ≡ length ks) × (k ≡ l)) → NamesEarlier i l.from
-    early i l (inl h) = are.earlier i l h.1
-    early i l (inr h) = subst (λ m. NamesEarlier i m.from) h.1 (subst (λ n. NamesEarlier n k.from) (sym h.0) names)
+    early : (i : ℕ) (l : Kept) → ((i < length ks) × (slice_get ks i ≡ Some l)) ⊎ ((i ≡ length ks) × (k ≡ l)) → IsOlder i l.from
+    early i l (inl h) = are.older i l.from (get-map (λ (k : Kept). k.from) ks i l h.1)
+    early i l (inr h) = subst (λ m. IsOlder i m.from) h.1 (subst (λ n. IsOlder n k.from) (sym h.0) names)
 
-    right : (i : ℕ) → (i < length ks) ⊎ (i ≡ length ks) → IsProfile a (set_at (ks ++ k ∷ []) i) (forest_at (ks ++ k ∷ []) i)
+    right : (i : ℕ) → (i < length ks) ⊎ (i ≡ length ks) → IsProfile a (set_at (ks ++ k ∷ []) i) (forest_of (ks ++ k ∷ []) i)
     right i (inl h) =
-        subst (λ p. IsProfile a p (forest_at (ks ++ k ∷ []) i)) (sym (set_at-append ks (k ∷ []) i h))
-        (subst (IsProfile a (set_at ks i)) (sym (forest_at-append ks (k ∷ []) i h)) (are.profiles i h))
+        subst (λ p. IsProfile a p (forest_of (ks ++ k ∷ []) i)) (sym (set_at-append ks (k ∷ []) i h))
+        (subst (IsProfile a (set_at ks i)) (sym (forest_of-append ks (k ∷ []) i h)) (are.profiles i h))
     right i (inr e) =
-        subst (λ n. IsProfile a (set_at (ks ++ k ∷ []) n) (forest_at (ks ++ k ∷ []) n)) (sym e)
-        (subst (λ p. IsProfile a p (forest_at (ks ++ k ∷ []) (length ks))) (sym (set_at-last ks k))
-        (subst (IsProfile a k.set) (sym (forest_at-last ks k)) is))
+        subst (λ n. IsProfile a (set_at (ks ++ k ∷ []) n) (forest_of (ks ++ k ∷ []) n)) (sym e)
+        (subst (λ p. IsProfile a p (forest_of (ks ++ k ∷ []) (length ks))) (sym (set_at-last ks k))
+        (subst (IsProfile a k.set) (sym (forest_of-last ks k)) is))
 
     wide : (i : ℕ) → (i < length ks) ⊎ (i ≡ length ks) → length (set_at (ks ++ k ∷ []) i) ≡ length a
     wide i (inl h) = ap length (set_at-append ks (k ∷ []) i h) ∙ are.long i h
@@ -105,14 +71,14 @@ pub record KeptMore (a : List State) (ks ls : List Kept) (p : List Bool) : Type 
   pub grows : Grows ks ls
   pub there : IsKept ls p
 
-pub keeps_more : (a : List State) (ks ls : List Kept) (p : List Bool) (from : Recipe) → AreKept a ks → NamesEarlier (length ks) from → IsProfile a p (made (forests_after [] ks) from) → length p ≡ length a
+pub keeps_more : (a : List State) (ks ls : List Kept) (p : List Bool) (from : Recipe) → AreKept a ks → IsOlder (length ks) from → IsProfile a p (made (forests (recipes ks)) from) → length p ≡ length a
     → Keeps ks p from ls → KeptMore a ks ls p
 keeps_more a ks ls p from are names is long (inl (e, there)) =
     record { kept = subst (AreKept a) (sym e) are; grows = subst (Grows ks) (sym e) (grows-refl ks); there = subst (λ l. IsKept l p) (sym e) there }
 keeps_more a ks ls p from are names is long (inr (fresh, (k, set, by, e))) =
     let more : AreKept a (ks ++ k ∷ []) =
-    push a ks k are (subst (NamesEarlier (length ks)) (sym by) names)
-    (subst (λ q. IsProfile a q (made (forests_after [] ks) k.from)) (sym set) (subst (λ r. IsProfile a p (made (forests_after [] ks) r)) (sym by) is))
+    push a ks k are (subst (IsOlder (length ks)) (sym by) names)
+    (subst (λ q. IsProfile a q (made (forests (recipes ks)) k.from)) (sym set) (subst (λ r. IsProfile a p (made (forests (recipes ks)) r)) (sym by) is))
     (ap length set ∙ long) (λ i h x. fresh i h (x ∙ set)) in
     record {
       kept = subst (AreKept a) (sym e) more;

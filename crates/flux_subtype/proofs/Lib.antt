@@ -8,6 +8,5 @@ pub mod IndexLaws
 pub mod Firing
 pub mod Turning
 pub mod Many
-pub mod Performing
 pub mod Searching
 pub mod Deciding

@@ -1,25 +1,26 @@
 -- The search, from its beginning to its answer.
-use Rattle.std.proofs.Common.{◌≡◌, ◌⊎◌, ℕ, zero, suc, ◌<◌, ◌≤◌, List, [], ◌∷◌, ◌++◌, length, Bool, true, false, Option, Some, None, slice_get, refl, sym, ap, subst, ◌∙◌, inl, inr, arith}
+use Rattle.std.proofs.Common.{◌≡◌, ◌⊎◌, ℕ, ◌<◌, ◌≤◌, List, [], length, Bool, true, false, Option, Some, None, slice_get, refl, sym, ap, subst, ◌∙◌, inl, inr, arith}
 use Rattle.std.proofs.lemmas.Bool.{false_from_ne_true}
 use Rattle.flux_atom.specs.declared.atom.AtomKind.{AtomKind}
 use Rattle.flux_atom.specs.declared.atom.AtomKind.TheVariants as kind
 use Rattle.flux_trees.specs.Hedge.{Plain, nil}
-use Rattle.flux_trees.specs.Each.{EachLabel}
 use Rattle.flux_schema.proofs.MarkLaws.{le_or}
 use Rattle.flux_auto.specs.declared.edge.Edge.TheVariants as edge
+use Rattle.flux_auto.specs.declared.recipe.Recipe.{Recipe}
+use Rattle.flux_auto.specs.declared.recipe.Recipe.TheVariants.{End, Elem}
 use Rattle.flux_auto.specs.Takes.{State, has, takes}
+use Rattle.flux_auto.proofs.Meaning.{get_of-map}
+use Rattle.flux_auto.proofs.Recipes.{forests_labelled}
 use Rattle.flux_subtype.specs.declared.index.Move.{Move}
 use Rattle.flux_subtype.specs.declared.index.Index.{Index}
 use Rattle.flux_subtype.specs.declared.index.Group.{Group}
 use Rattle.flux_subtype.specs.declared.index.Link.{Link}
-use Rattle.flux_subtype.specs.declared.kept.Recipe.{Recipe}
-use Rattle.flux_subtype.specs.declared.kept.Recipe.TheVariants.{Nothing, Leaf, Elem}
 use Rattle.flux_subtype.specs.declared.kept.Kept.{Kept}
 use Rattle.flux_subtype.specs.declared.trees.Head.TheVariants.{Atom}
 use Rattle.flux_subtype.specs.declared.trees.Tree.{Tree}
 use Rattle.flux_subtype.specs.Going.{Has, IsEdgeLabel, IsProfile}
 use Rattle.flux_subtype.specs.Index.{moves_of, AreWide, Indexes, IndexesElements, ByAtom}
-use Rattle.flux_subtype.specs.Kept.{forest_in, made, forests_after, forest_at, IsRecipeLabel, IsKeptLabel, AreKept, Grows, Keeps}
+use Rattle.flux_subtype.specs.Kept.{recipes, forest_of, IsRecipeLabel, IsKeptLabel, AreKept, Grows, Keeps}
 use Rattle.flux_subtype.specs.Part.{IsPartOf}
 use Rattle.flux_subtype.specs.Search.{IsFound, IsAnswer, IsHeadLabel, IsUsed, LabelsGrow, MovesBy, AreTrees, AddsTree, IsDone, IsAgainst}
 use Rattle.flux_subtype.proofs.Items.{get-push, has-nil}
@@ -29,16 +30,16 @@ use Rattle.flux_subtype.proofs.CoverLaws.{all_covered, covered_right}
 
 none_kept : (a : List State) → AreKept a []
 none_kept a = record {
-  earlier = λ i k e. absurd (let x : slice_get {X = Kept} [] i ≡ slice_get {X = Kept} [] i = refl in cc);
+  older = λ i r e. absurd (let x : slice_get {X = Recipe} [] i ≡ slice_get {X = Recipe} [] i = refl in cc);
   profiles = λ i h. absurd (omega (arith, h));
   long = λ i h. absurd (omega (arith, h));
   apart = λ i j l h. absurd (omega (arith, h));
 }
 
 pub begun : (a : List State) (index : Index) (k0 ks : List Kept) (t0 t1 t2 t3 : List Tree) (bools texts numbers : List Move) (p : List Bool) → Indexes a index → bools ≡ index.bools.items → texts ≡ index.texts.items → numbers ≡ index.numbers.items
-    → k0 ≡ [] → t0 ≡ [] → AddsTree t0 t1 (Atom kind.Bool) bools → AddsTree t1 t2 (Atom kind.Text) texts → AddsTree t2 t3 (Atom kind.Int) numbers → IsProfile a p nil → length p ≡ length a → Keeps k0 p Nothing ks → IsDone a ks t3 0
+    → k0 ≡ [] → t0 ≡ [] → AddsTree t0 t1 (Atom kind.Bool) bools → AddsTree t1 t2 (Atom kind.Text) texts → AddsTree t2 t3 (Atom kind.Int) numbers → IsProfile a p nil → length p ≡ length a → Keeps k0 p End ks → IsDone a ks t3 0
 begun a index k0 ks t0 t1 t2 t3 bools texts numbers p is eb et en ek e0 one two three nothing long keeps =
-    let more = keeps_more a [] ks p Nothing (none_kept a) tt nothing long (subst (λ k. Keeps k p Nothing ks) ek keeps) in
+    let more = keeps_more a [] ks p End (none_kept a) tt nothing long (subst (λ k. Keeps k p End ks) ek keeps) in
     record {
       kept = more.kept;
       trees = trees;
@@ -79,11 +80,11 @@ begun a index k0 ks t0 t1 t2 t3 bools texts numbers p is eb et en ek e0 one two 
     ]
 
 -- the empty forest and atoms have no labels
-pub none_used : (k0 ks : List Kept) (t0 t1 t2 t3 : List Tree) (bools texts numbers : List Move) (p : List Bool) → k0 ≡ [] → t0 ≡ [] → AddsTree t0 t1 (Atom kind.Bool) bools → AddsTree t1 t2 (Atom kind.Text) texts → AddsTree t2 t3 (Atom kind.Int) numbers → Keeps k0 p Nothing ks
+pub none_used : (k0 ks : List Kept) (t0 t1 t2 t3 : List Tree) (bools texts numbers : List Move) (p : List Bool) → k0 ≡ [] → t0 ≡ [] → AddsTree t0 t1 (Atom kind.Bool) bools → AddsTree t1 t2 (Atom kind.Text) texts → AddsTree t2 t3 (Atom kind.Int) numbers → Keeps k0 p End ks
     → (n : ℕ) → IsUsed ks t3 n → ⊥
 none_used k0 ks t0 t1 t2 t3 bools texts numbers p ek e0 one two three keeps n (inl (i, k, at, l)) = kept keeps
   where
-    kept : Keeps k0 p Nothing ks → ⊥
+    kept : Keeps k0 p End ks → ⊥
     kept (inl (e, there)) = (let none : slice_get {X = Kept} [] i ≡ Some k = ap (λ x. slice_get x i) (sym (e ∙ ek)) ∙ at in cc)
     kept (inr (fresh, (x, set, by, e))) = elim (get-push k0 x i k (ap (λ y. slice_get y i) (sym e) ∙ at)) [
       | inl o ↦ (let none : slice_get {X = Kept} [] i ≡ Some k = ap (λ y. slice_get y i) (sym ek) ∙ o.1 in cc)
@@ -116,32 +117,20 @@ pub answered_none : (a : List State) (ks : List Kept) (ts : List Tree) (left rig
 answered_none a ks ts left right done seen so_far le behind none v =
     covered_right a ks left right (λ i l. none i (omega (arith, l, le, behind))) v (all_covered a ks ts done le so_far v)
 
--- the labels of the kept forests are those of their recipes
-forests_labelled : (P : ℕ → Type 0) (vs : List Plain) (ks : List Kept) → ((i : ℕ) → EachLabel P (forest_in vs i)) → ((n : ℕ) → IsKeptLabel ks n → P n) → (i : ℕ) → EachLabel P (forest_in (forests_after vs ks) i)
-forests_labelled P vs [] old f = old
-forests_labelled P vs (k ∷ ks) old f = forests_labelled P (vs ++ made vs k.from ∷ []) ks (more vs (made vs k.from) old (made_labelled k.from (λ n l. f n (0, k, refl, l)))) (λ n h. f n (suc h.0, h.1, h.2, h.3))
-  where
-    made_labelled : (r : Recipe) → ((n : ℕ) → IsRecipeLabel r n → P n) → EachLabel P (made vs r)
-    made_labelled Nothing g = tt
-    made_labelled (Leaf j r) g = old r
-    made_labelled (Elem n c r) g = (g n refl, old c, old r)
-
-    more : (gs : List Plain) (h : Plain) → ((i : ℕ) → EachLabel P (forest_in gs i)) → EachLabel P h → (i : ℕ) → EachLabel P (forest_in (gs ++ h ∷ []) i)
-    more [] h g each zero = each
-    more [] h g each (suc i) = tt
-    more (x ∷ gs) h g each zero = g 0
-    more (x ∷ gs) h g each (suc i) = more gs h (λ j. g (suc j)) each i
+-- the label of a recipe is that of a kept profile
+kept_label : (ks : List Kept) (i n c r : ℕ) → slice_get (recipes ks) i ≡ Some (Elem n c r) → IsKeptLabel ks n
+kept_label ks i n c r e = let q = get_of-map (λ (k : Kept). k.from) ks i (Elem n c r) e in (i, q.0, q.1, subst (λ f. IsRecipeLabel f n) q.2 refl)
 
 -- what is found in the part answers for the whole
 pub found_answers : (a part : List State) (groups : List Group) (any : List Link) (other : ℕ) (k1 ks : List Kept) (t1 ts : List Tree) (left right : ℕ) (found : Option ℕ) → IsPartOf a left right part → IndexesElements part groups any → ((n : ℕ) → IsUsed k1 t1 n → ⊥)
     → LabelsGrow groups other k1 t1 ks ts → IsFound part ks left right found → IsAnswer a other ks left right found
 found_answers a part groups any other k1 ks t1 ts left right None same elements none labels f = λ v t. sym (same.right v) ∙ f v (same.left v ∙ t)
 found_answers a part groups any other k1 ks t1 ts left right (Some i) same elements none labels (kept, inside, (on, off)) = (
-  kept.earlier,
+  kept.older,
   inside,
-  sym (same.left (forest_at ks i)) ∙ (kept.profiles i inside left).0 on,
-  sym (same.right (forest_at ks i)) ∙ false_from_ne_true _ (λ t. (let x : true ≡ false = sym ((kept.profiles i inside right).1 t) ∙ off in cc)),
-  forests_labelled (λ n. (n ≡ other) ⊎ IsEdgeLabel a n) [] ks (λ j. tt) shown i,
+  sym (same.left (forest_of ks i)) ∙ (kept.profiles i inside left).0 on,
+  sym (same.right (forest_of ks i)) ∙ false_from_ne_true _ (λ t. (let x : true ≡ false = sym ((kept.profiles i inside right).1 t) ∙ off in cc)),
+  forests_labelled (λ n. (n ≡ other) ⊎ IsEdgeLabel a n) [] (recipes ks) (λ j. tt) (λ j n c r e. shown n (kept_label ks j n c r e)) i,
 )
   where
     shown : (n : ℕ) → IsKeptLabel ks n → (n ≡ other) ⊎ IsEdgeLabel a n

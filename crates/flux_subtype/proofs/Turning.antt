@@ -15,9 +15,9 @@ use Rattle.flux_subtype.specs.declared.trees.Head.{Head}
 use Rattle.flux_subtype.specs.declared.trees.Head.TheVariants.{Atom, Elem}
 use Rattle.flux_subtype.specs.declared.trees.Tree.{Tree}
 use Rattle.flux_subtype.specs.Going.{Has, IsProfile}
-use Rattle.flux_subtype.specs.Index.{HasLink, HasGroup, Follows, AreWide, AreWideLinks, AreWideGroups, ByAtom, ByElement, ByLinks, IndexesElements}
-use Rattle.flux_auto.specs.Witness.{sample}
-use Rattle.flux_subtype.specs.Kept.{set_of, made, forests_after, forest_at, set_at, IsRecipeLabel, IsKeptLabel, NamesEarlier, AreKept, Grows, Keeps}
+use Rattle.flux_subtype.specs.Index.{HasLink, Follows, AreWide, AreWideLinks, AreWideGroups, ByAtom, ByElement, ByLinks, IndexesElements}
+use Rattle.flux_auto.specs.Witness.{sample, made, forests, IsOlder}
+use Rattle.flux_subtype.specs.Kept.{recipes, forest_of, set_of, set_at, IsRecipeLabel, IsKeptLabel, AreKept, Grows, Keeps}
 use Rattle.flux_subtype.specs.Search.{Fires, IsSilent, MovesBy, AreTrees, Stands, TreesGrow, AddsTree, IsHeadLabel, IsTreeLabel, IsShown, IsUsed, IsElementOf, AddsElements, LabelsDone, Answered, AllAnswered, AnsweredBelow, recipe_of, Puts, Fills, FillsAll, IsDone, Turned}
 use Rattle.flux_auto.proofs.Items.{some_is}
 use Rattle.flux_subtype.proofs.Items.{read_is, get-push, has-last, has-push, has-nil, below_or_at, grows-refl, grows-trans, grows-length, grows-get, grows-has}
@@ -64,16 +64,16 @@ ends_one a p q k b below is on long inserts = record {
 
 -- ---- a tree and a rest
 
-names_earlier : (a : List State) (ks : List Kept) (head : Head) (moves : List Move) (r : ℕ) → MovesBy a ks head moves → r < length ks → NamesEarlier (length ks) (recipe_of head r)
-names_earlier a ks (Atom k) moves r by h = h
-names_earlier a ks (Elem n c) moves r by h = (by.0, h)
+names_older : (a : List State) (ks : List Kept) (head : Head) (moves : List Move) (r : ℕ) → MovesBy a ks head moves → r < length ks → IsOlder (length ks) (recipe_of head r)
+names_older a ks (Atom k) moves r by h = h
+names_older a ks (Elem n c) moves r by h = (by.0, h)
 
 recipe_profile : (a : List State) (ks : List Kept) (head : Head) (moves : List Move) (r : ℕ) (p : List Bool) → AreKept a ks → MovesBy a ks head moves → r < length ks → Fires moves (set_at ks r) p
-    → IsProfile a p (made (forests_after [] ks) (recipe_of head r))
+    → IsProfile a p (made (forests (recipes ks)) (recipe_of head r))
 recipe_profile a ks (Atom k) moves r p are by h f =
-    fires_profile a moves (set_at ks r) p (leaf tt (sample k) (forest_at ks r)) (subst (λ x. ByAtom a x moves) (sym (kind_of-sample k)) by) (λ e. cc) (are.profiles r h) f
+    fires_profile a moves (set_at ks r) p (leaf tt (sample k) (forest_of ks r)) (subst (λ x. ByAtom a x moves) (sym (kind_of-sample k)) by) (λ e. cc) (are.profiles r h) f
 recipe_profile a ks (Elem n c) moves r p are by h f =
-    fires_profile a moves (set_at ks r) p (elem tt n (forest_at ks c) (forest_at ks r)) (element_moves a n (set_at ks c) moves (forest_at ks c) (forest_at ks r) by.1 (are.profiles c by.0)) (λ e. cc) (are.profiles r h) f
+    fires_profile a moves (set_at ks r) p (elem tt n (forest_of ks c) (forest_of ks r)) (element_moves a n (set_at ks c) moves (forest_of ks c) (forest_of ks r) by.1 (are.profiles c by.0)) (λ e. cc) (are.profiles r h) f
 
 pub puts_silent : (a : List State) (ks : List Kept) (head : Head) (moves : List Move) (q : List Bool) → AreKept a ks → IsSilent moves q → Puts a ks ks head moves q
 puts_silent a ks head moves q are silent = record { kept = are; grows = grows-refl ks; answered = inl silent; labels = λ n h. inl h }
@@ -94,7 +94,7 @@ keeps-labels ks ls p head r (inr (fresh, (k, set, by, e))) n (i, x, at, l) =
 pub puts : (a : List State) (ks ls : List Kept) (head : Head) (moves : List Move) (r : ℕ) (p : List Bool) → AreKept a ks → MovesBy a ks head moves → r < length ks → length p ≡ length a → Fires moves (set_at ks r) p
     → Keeps ks p (recipe_of head r) ls → Puts a ks ls head moves (set_at ks r)
 puts a ks ls head moves r p are by h long f keeps =
-    let k = keeps_more a ks ls p (recipe_of head r) are (names_earlier a ks head moves r by h) (recipe_profile a ks head moves r p are by h f) long keeps in
+    let k = keeps_more a ks ls p (recipe_of head r) are (names_older a ks head moves r by h) (recipe_profile a ks head moves r p are by h f) long keeps in
     record { kept = k.kept; grows = k.grows; answered = inr (k.there.0, k.there.1, subst (Fires moves (set_at ks r)) (sym k.there.2) f); labels = keeps-labels ks ls p head r keeps }
 
 pub set_at-read : (ks : List Kept) (i : ℕ) (k d : Kept) (p : List Bool) → i < length ks → k ≡ get_or ks i d → p ≡ k.set → p ≡ set_at ks i

@@ -4,5 +4,4 @@ pub mod Part
 pub mod Index
 pub mod Kept
 pub mod Search
-pub mod Witness
 pub mod Setting

@@ -3,20 +3,20 @@ use Rattle.std.specs.Prelude.{◌≡◌, ◌⊎◌, ◌↔◌, ℕ, ◌<◌, ◌
 use Rattle.flux_atom.specs.declared.atom.AtomKind.{AtomKind}
 use Rattle.flux_trees.specs.Hedge.{Plain, nil}
 use Rattle.flux_trees.specs.Each.{EachLabel}
+use Rattle.flux_auto.specs.declared.recipe.Recipe.{Recipe}
+use Rattle.flux_auto.specs.declared.recipe.Recipe.TheVariants as recipe
 use Rattle.flux_auto.specs.Takes.{State, has, takes}
+use Rattle.flux_auto.specs.Witness.{AreOlder}
 use Rattle.flux_subtype.specs.declared.index.Move.{Move}
 use Rattle.flux_subtype.specs.declared.index.Group.{Group}
 use Rattle.flux_subtype.specs.declared.index.Link.{Link}
-use Rattle.flux_subtype.specs.declared.kept.Recipe.{Recipe}
-use Rattle.flux_subtype.specs.declared.kept.Recipe.TheVariants as recipe
 use Rattle.flux_subtype.specs.declared.kept.Kept.{Kept}
 use Rattle.flux_subtype.specs.declared.trees.Head.{Head}
 use Rattle.flux_subtype.specs.declared.trees.Head.TheVariants.{Atom, Elem}
 use Rattle.flux_subtype.specs.declared.trees.Tree.{Tree}
 use Rattle.flux_subtype.specs.Going.{Has, IsEdgeLabel, IsProfile, IsDead}
 use Rattle.flux_subtype.specs.Index.{Moves, HasGroup, AreWide, AreWideLinks, AreWideGroups, ByAtom, ByElement, ByLinks}
-use Rattle.flux_subtype.specs.Kept.{forest_at, set_at, IsKeptLabel, AreKept, Grows}
-use Rattle.flux_subtype.specs.Witness.{NameEarlier}
+use Rattle.flux_subtype.specs.Kept.{recipes, forest_of, set_at, IsKeptLabel, AreKept, Grows}
 
 -- the profile of a tree and a rest with the profile q is p, where the tree makes the moves
 abbrev pub Fires : List Move → List Bool → List Bool → Type 0
@@ -96,7 +96,7 @@ AnsweredBelow ks ts m n = (k i : ℕ) (t : Tree) → k < m → slice_get ts k �
 
 -- how a forest of a tree and the forest of a kept profile is made
 abbrev pub recipe_of : Head → ℕ → Recipe
-recipe_of (Atom k) r = recipe.Leaf k r
+recipe_of (Atom k) r = recipe.Atom k r
 recipe_of (Elem n c) r = recipe.Elem n c r
 
 -- the tree is put before the profile q
@@ -164,6 +164,6 @@ IsFound a ks left right (Some i) = AreKept a ks × (i < length ks) × IsAgainst 
 -- label of which is `other` or that of an edge
 abbrev pub IsAnswer : List State → ℕ → List Kept → ℕ → ℕ → Option ℕ → Type 0
 IsAnswer a other ks left right None = (v : Plain) → takes a left v ≡ true → takes a right v ≡ true
-IsAnswer a other ks left right (Some i) = NameEarlier ks × (i < length ks)
-    × (takes a left (forest_at ks i) ≡ true) × (takes a right (forest_at ks i) ≡ false)
-    × EachLabel (λ n. (n ≡ other) ⊎ IsEdgeLabel a n) (forest_at ks i)
+IsAnswer a other ks left right (Some i) = AreOlder (recipes ks) × (i < length ks)
+    × (takes a left (forest_of ks i) ≡ true) × (takes a right (forest_of ks i) ≡ false)
+    × EachLabel (λ n. (n ≡ other) ⊎ IsEdgeLabel a n) (forest_of ks i)

@@ -1,5 +1,5 @@
 -- What a decider by profiles is made with.
-use Rattle.std.specs.Prelude.{◌≡◌, ℕ, refl}
+use Rattle.std.specs.Prelude.{ℕ, refl}
 use Rattle.std.specs.Coded.{Coded, code_by, coded×, coded_ℕ}
 use Rattle.flux_schema.specs.Definitions.{Definitions}
 use Rattle.flux_schema.specs.DefinitionCodes.{definitions_code}

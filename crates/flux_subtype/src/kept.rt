@@ -1,21 +1,12 @@
 // The profiles that are kept.
-ghost use Rattle.std.specs.Prelude.{IfOk, IfSome, IfNone};
-ghost use Rattle.flux_subtype.specs.Kept.{Keeps, IsKept, IsFresh};
+ghost use Rattle.std.specs.Prelude.{◌≡◌, IfOk, IfSome, IfNone};
+ghost use Rattle.flux_subtype.specs.Kept.{Keeps, IsKept, IsFresh, recipes};
 
 use crate::set::Set;
-use flux_atom::{AtomKind, Name};
-use std::alloc::AllocError;
+use flux_auto::Recipe;
+use std::alloc::{AllocError, Global};
 
-// How a forest with a profile is made: nothing, or a tree and the forest of an earlier profile, by
-// its index. The content of an element is also such a forest.
-#[derive(Clone, Copy, Debug)]
-pub(crate) enum Recipe {
-    Nothing,
-    Leaf(AtomKind, usize),
-    Elem(Name, usize, usize),
-}
-
-// The states that take a forest, and how it is made.
+// A profile, and how a forest that has it is made of those of profiles kept before.
 #[derive(Drop)]
 pub(crate) struct Kept {
     pub(crate) set: Set,
@@ -54,4 +45,11 @@ pub(crate) fn keep(
     let place = kept.len();
     kept.push(Kept { set, from })?;
     Ok(place)
+}
+
+// How the forests of the kept profiles are made.
+pub(crate) fn recipes_of(alloc: Global, kept: &[Kept]) -> Result<Vec<Recipe>, AllocError>
+    ensures { IfOk result (λ list. list.items ≡ recipes kept.now) }
+{
+    kept.iter().map(|each| each.from).collect(alloc)
 }

@@ -8,7 +8,6 @@ mod profiles;
 mod search;
 mod set;
 mod trees;
-mod witness;
 
 pub use profiles::Profiles;
 

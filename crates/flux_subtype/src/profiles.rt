@@ -2,10 +2,10 @@
 ghost use Rattle.std.specs.Prelude.{◌≡◌};
 ghost use Rattle.flux_schema.specs.Labels.{BodiesLack};
 
+use crate::kept::recipes_of;
 use crate::search::search;
-use crate::witness::witness;
 use flux_atom::Name;
-use flux_auto::Auto;
+use flux_auto::{Auto, build};
 use flux_types::{Decider, Defs, Ty, Verdict};
 use std::alloc::{AllocError, Global};
 use std::marker::Model;
@@ -80,7 +80,10 @@ impl<'d> Decider for Profiles<'d> {
         let found = search(alloc, &auto, self.other, left, right, &mut kept)?;
         match found {
             None => Ok(Verdict::Yes),
-            Some(place) => Ok(Verdict::No(witness(alloc, &kept, place)?)),
+            Some(place) => {
+                let recipes = recipes_of(alloc, &kept)?;
+                Ok(Verdict::No(build(alloc, &recipes, place as u64)?))
+            }
         }
     }
 }

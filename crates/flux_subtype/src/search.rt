@@ -8,12 +8,12 @@ ghost use Rattle.flux_subtype.specs.Kept.{set_at, AreKept};
 ghost use Rattle.flux_subtype.specs.Search.{Fires, IsSilent, MovesBy, AreTrees, AnsweredBelow, Puts, Fills, FillsAll, IsDone, LabelsGrow, Turned, IsAgainst, IsFound, IsAnswer, recipe_of};
 
 use crate::index::{Group, Index, Link, Move, index_of};
-use crate::kept::{Kept, Recipe, keep};
+use crate::kept::{Kept, keep};
 use crate::part::Part;
 use crate::set::Set;
 use crate::trees::{Head, Tree, add_elements, add_tree};
 use flux_atom::{AtomKind, Name};
-use flux_auto::Auto;
+use flux_auto::{Auto, Recipe};
 use std::alloc::{AllocError, Global};
 
 // The profile of the empty forest.
@@ -62,8 +62,8 @@ fn recipe(head: Head, rest: usize) -> Recipe
     ensures { result ≡ recipe_of head rest }
 {
     match head {
-        Head::Atom(kind) => Recipe::Leaf(kind, rest),
-        Head::Elem(label, content) => Recipe::Elem(label, content, rest),
+        Head::Atom(kind) => Recipe::Atom(kind, rest as u64),
+        Head::Elem(label, content) => Recipe::Elem(label, content as u64, rest as u64),
     }
 }
 
@@ -267,7 +267,7 @@ pub(crate) fn search(
     add_tree(&mut trees, Head::Atom(AtomKind::Bool), bools)?;
     add_tree(&mut trees, Head::Atom(AtomKind::Text), texts)?;
     add_tree(&mut trees, Head::Atom(AtomKind::Int), numbers)?;
-    keep(kept, nil_profile(alloc, &part)?, Recipe::Nothing, 0)?;
+    keep(kept, nil_profile(alloc, &part)?, Recipe::End, 0)?;
     let found = saturate(
         alloc, &part, &groups, &any, other, left, right, kept, &mut trees,
     )?;

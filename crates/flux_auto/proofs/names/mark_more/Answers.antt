@@ -1,4 +1,4 @@
-use Rattle.std.proofs.Common.{◌+◌, sym, subst, true, false, arith}
+use Rattle.std.proofs.Common.{◌+◌, sym, subst, arith}
 use Rattle.flux_auto.specs.Marking.{Marked}
 use Rattle.flux_auto.proofs.Marking.{Marking, marking_begins, marking_marks, marking_keeps, marking_ends}
 use Rattle.flux_auto.proofs.names.mark_more.Goals as goal

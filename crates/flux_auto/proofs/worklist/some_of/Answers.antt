@@ -1,9 +1,9 @@
 use Rattle.std.proofs.Common.{◌∙◌, ◌<◌, sym, ap, subst, List, Option, ℕ, length}
 use Rattle.flux_trees.specs.Draft.{done}
-use Rattle.flux_auto.specs.declared.witness.Recipe.{Recipe}
+use Rattle.flux_auto.specs.declared.recipe.Recipe.{Recipe}
 use Rattle.flux_auto.specs.Witness.{place, forest_at, forests}
 use Rattle.flux_auto.proofs.Recipes.{untaken, taken_at}
-use Rattle.flux_auto.proofs.build.some_of.Goals as goal
+use Rattle.flux_auto.proofs.worklist.some_of.Goals as goal
 
 pub returns-in_default : goal.returns-in_default
 returns-in_default c = λ v. untaken c.args.rows.now c.args.other c.in_ok-known.known.places.items c.in_ok-known.ensures.settled v c.args.state (ap (λ (l : List (Option ℕ)). place l c.args.state) (sym c.deref.ensures.value) ∙ sym c.in_default.ensures)

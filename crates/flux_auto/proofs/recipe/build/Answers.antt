@@ -1,8 +1,8 @@
 use Rattle.std.proofs.Common.{◌∙◌, ap, ◌++◌, ◌∷◌, []}
-use Rattle.flux_auto.specs.declared.witness.Recipe.TheVariants.{Atom, Elem}
-use Rattle.flux_auto.specs.declared.build.Task.{Task}
+use Rattle.flux_auto.specs.declared.recipe.Recipe.TheVariants.{Atom, Elem}
+use Rattle.flux_auto.specs.declared.recipe.Task.{Task}
 use Rattle.flux_auto.proofs.Building.{some_open, builds_close, close_less, here, builds_end, end_less, builds_atom, atom_less, builds_element, element_less}
-use Rattle.flux_auto.proofs.build.build.Goals as goal
+use Rattle.flux_auto.proofs.recipe.build.Goals as goal
 
 pub end_element-requires : goal.end_element-requires
 end_element-requires c =

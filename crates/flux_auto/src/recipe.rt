@@ -1,15 +1,20 @@
-// Forests that are built of recipes.
-ghost use Rattle.std.specs.Prelude.{◌≡◌, ◌<◌, Some, length, map, slice_get, IfOk};
+// Forests that are told by recipes, and built of them.
+ghost use Rattle.std.specs.Prelude.{◌≡◌, ◌<◌, Some, length, slice_get, IfOk};
 ghost use Rattle.flux_trees.specs.Draft.{done};
-ghost use Rattle.flux_auto.specs.Built.{state_of};
-ghost use Rattle.flux_auto.specs.Witness.{sample, AreOlder, forests, forest_at, IsTakenBy};
+ghost use Rattle.flux_auto.specs.Witness.{sample, AreOlder, forests, forest_at};
 
-use crate::table::Row;
-use crate::witness::{Recipe, place_of};
-use crate::worklist::find_witnesses;
 use flux_atom::{Atom, AtomKind, Name, Word};
 use flux_forest::Forest;
 use std::alloc::{AllocError, Global};
+
+/// How a forest is made: it is empty, or a tree and a rest. The rest, and the content of an
+/// element, are the forests of other recipes, by their places in a list.
+#[derive(Clone, Copy, Debug)]
+pub enum Recipe {
+    End,
+    Atom(AtomKind, u64),
+    Elem(Name, u64, u64),
+}
 
 fn sample(alloc: Global, kind: AtomKind) -> Result<Atom, AllocError>
     ensures { IfOk result (λ atom. atom ≡ sample kind) }
@@ -38,8 +43,9 @@ enum Task {
     Close,
 }
 
-// The forest at a place.
-fn build(alloc: Global, recipes: &[Recipe], start: u64) -> Result<Forest, AllocError>
+/// The forest of the recipe at a place, of recipes that name earlier ones. An atom is the simplest
+/// of its kind. The forest may be exponentially larger than the list.
+pub fn build(alloc: Global, recipes: &[Recipe], start: u64) -> Result<Forest, AllocError>
     requires older { AreOlder recipes.now }
     requires there { start < length recipes.now }
     ensures { IfOk result (λ forest. forest ≡ done (forest_at (forests recipes.now) start)) }
@@ -66,21 +72,4 @@ fn build(alloc: Global, recipes: &[Recipe], start: u64) -> Result<Forest, AllocE
         }
     }
     Ok(forest)
-}
-
-// A forest that a state takes, if it takes one.
-pub(crate) fn some_of(
-    alloc: Global,
-    rows: &[Row],
-    other: Name,
-    state: u64,
-) -> Result<Option<Forest>, AllocError>
-    ensures { IfOk result (IsTakenBy (map state_of rows.now) other state) }
-{
-    let known = find_witnesses(alloc, rows, other)?;
-    let Some(place) = place_of(&known.places, state) else {
-        return Ok(None);
-    };
-    let forest = build(alloc, &known.recipes, place)?;
-    Ok(Some(forest))
 }
