@@ -1,9 +1,8 @@
 -- What the automaton of two types answers for them.
-use Rattle.std.proofs.Common.{◌≡◌, ◌⊎◌, ℕ, zero, suc, ◌<◌, length, true, false, List, [], ◌∷◌, ◌++◌, Option, Some, IfSome, slice_get, refl, sym, ap, subst, ◌∙◌, inl, inr, arith}
+use Rattle.std.proofs.Common.{◌≡◌, ◌⊎◌, ℕ, zero, suc, true, false, List, [], ◌∷◌, ◌++◌, Option, Some, IfSome, slice_get, refl, sym, ap, subst, ◌∙◌, inl, inr, arith}
 use Rattle.std.specs.Prelude.{Contains}
-use Rattle.std.proofs.lemmas.List.{length-map}
 use Rattle.flux_trees.specs.Hedge.{Plain}
-use Rattle.flux_trees.specs.Draft.{Draft, done}
+use Rattle.flux_trees.specs.Draft.{Draft}
 use Rattle.flux_trees.specs.Each.{EachLabel}
 use Rattle.flux_trees.proofs.EachLaws.{EachLabel-more}
 use Rattle.flux_schema.specs.Ty.{Ty}
@@ -12,13 +11,8 @@ use Rattle.flux_schema.specs.Member.{Member}
 use Rattle.flux_schema.specs.Labels.{Lacks, BodiesLack, IsGiven, IsLabelledBy}
 use Rattle.flux_schema.proofs.LabelLaws.{each_label}
 use Rattle.flux_types.specs.Verdicts.{IsEvidence}
-use Rattle.flux_auto.specs.declared.recipe.Recipe.{Recipe}
 use Rattle.flux_auto.specs.Automaton.{Automaton, TakesMembers, EdgesGiven}
-use Rattle.flux_auto.specs.Takes.{State}
-use Rattle.flux_auto.specs.Witness.{AreOlder}
-use Rattle.flux_subtype.specs.declared.kept.Kept.{Kept}
 use Rattle.flux_subtype.specs.Going.{IsEdgeLabel, LacksEdge}
-use Rattle.flux_subtype.specs.Kept.{recipes, forest_of}
 use Rattle.flux_subtype.specs.Search.{IsAnswer}
 
 -- one of two
@@ -57,24 +51,17 @@ first_takes a t u i s types e f = subst (λ j. IfSome (slice_get (t ∷ u ∷ []
 second_takes : (a : Automaton) (t u : Ty) (i s : ℕ) → a.types ≡ t ∷ u ∷ [] → i ≡ 1 → IfSome (slice_get a.types i) (TakesMembers a s) → TakesMembers a s u
 second_takes a t u i s types e f = subst (λ j. IfSome (slice_get (t ∷ u ∷ []) j) (TakesMembers a s)) e (subst (λ ts. IfSome (slice_get ts i) (TakesMembers a s)) types f)
 
--- the recipes of what is kept tell the forest of a profile that was found
-pub can_build : (a : List State) (other : ℕ) (ks : List Kept) (s r : ℕ) (found : Option ℕ) (place : ℕ) (rs : List Recipe) → IsAnswer a other ks s r found → found ≡ Some place → rs ≡ recipes ks → AreOlder rs × (place < length rs)
-can_build a other ks s r found place rs answer is same =
-    let against = subst (IsAnswer a other ks s r) is answer in
-    (subst AreOlder (sym same) against.0, (let l : place < length ks = against.1 in omega (arith, l, ap length same, length-map ks (λ (k : Kept). k.from))))
-
--- the forest of a profile that is against the inclusion
-pub evidence : (a : Automaton) (defs : Definitions) (other : ℕ) (t u : Ty) (i j s r : ℕ) (ks : List Kept) (found : Option ℕ) (place : ℕ) (f : Draft (Unit {0})) → EdgesGiven a → a.types ≡ t ∷ u ∷ [] → a.definitions ≡ defs → i ≡ 0 → j ≡ 1
-    → IfSome (slice_get a.types i) (TakesMembers a s) → IfSome (slice_get a.types j) (TakesMembers a r) → found ≡ Some place → IsAnswer a.states other ks s r found → f ≡ done (forest_of ks place) → IsEvidence defs other t u f
-evidence a defs other t u i j s r ks found place f given types same first second left right is answer whole =
-    let v = forest_of ks place in
-    let against = subst (IsAnswer a.states other ks s r) is answer in
+-- the forest that one state takes and the other doesn't
+pub evidence : (a : Automaton) (defs : Definitions) (other : ℕ) (t u : Ty) (i j s r : ℕ) (found : Option (Draft (Unit {0}))) (f : Draft (Unit {0})) → EdgesGiven a → a.types ≡ t ∷ u ∷ [] → a.definitions ≡ defs → i ≡ 0 → j ≡ 1
+    → IfSome (slice_get a.types i) (TakesMembers a s) → IfSome (slice_get a.types j) (TakesMembers a r) → found ≡ Some f → IsAnswer a.states other s r found → IsEvidence defs other t u f
+evidence a defs other t u i j s r found f given types same first second left right is answer =
+    let against = subst (IsAnswer a.states other s r) is answer in
     let in_left = first_takes a t u i s types first left in
     let in_right = second_takes a t u j r types second right in
     record {
-      forest = v;
-      whole = whole;
-      member = subst (λ ds. Member ds v t) same ((in_left v).0 against.2);
-      no_member = λ m. (let x : true ≡ false = sym ((in_right v).1 (subst (λ ds. Member ds v u) (sym same) m)) ∙ against.3 in cc);
-      labels = labelled_by a defs t u other v given types same against.4;
+      forest = against.0;
+      whole = against.1;
+      member = subst (λ ds. Member ds against.0 t) same ((in_left against.0).0 against.2);
+      no_member = λ m. (let x : true ≡ false = sym ((in_right against.0).1 (subst (λ ds. Member ds against.0 u) (sym same) m)) ∙ against.3 in cc);
+      labels = labelled_by a defs t u other against.0 given types same against.4;
     }

@@ -1,14 +1,17 @@
 -- The search, from its beginning to its answer.
 use Rattle.std.proofs.Common.{◌≡◌, ◌⊎◌, ℕ, ◌<◌, ◌≤◌, List, [], length, Bool, true, false, Option, Some, None, slice_get, refl, sym, ap, subst, ◌∙◌, inl, inr, arith}
 use Rattle.std.proofs.lemmas.Bool.{false_from_ne_true}
+use Rattle.std.proofs.lemmas.List.{length-map}
 use Rattle.flux_atom.specs.declared.atom.AtomKind.{AtomKind}
 use Rattle.flux_atom.specs.declared.atom.AtomKind.TheVariants as kind
 use Rattle.flux_trees.specs.Hedge.{Plain, nil}
+use Rattle.flux_trees.specs.Draft.{Draft, done}
 use Rattle.flux_schema.proofs.MarkLaws.{le_or}
 use Rattle.flux_auto.specs.declared.edge.Edge.TheVariants as edge
 use Rattle.flux_auto.specs.declared.recipe.Recipe.{Recipe}
 use Rattle.flux_auto.specs.declared.recipe.Recipe.TheVariants.{End, Elem}
 use Rattle.flux_auto.specs.Takes.{State, has, takes}
+use Rattle.flux_auto.specs.Witness.{forests, forest_at, AreOlder}
 use Rattle.flux_auto.proofs.Meaning.{get_of-map}
 use Rattle.flux_auto.proofs.Recipes.{forests_labelled}
 use Rattle.flux_subtype.specs.declared.index.Move.{Move}
@@ -112,27 +115,39 @@ next_seen ks js ls left right seen n e f g old new i l against =
       | inl le ↦ new i le (subst (λ k. i < length k) (sym e) inside) (subst (λ k. IsAgainst k left right i) (sym e) was)
     ]
 
-pub answered_none : (a : List State) (ks : List Kept) (ts : List Tree) (left right done seen : ℕ) → IsDone a ks ts done → length ks ≤ done → done ≤ seen → ((i : ℕ) → i < seen → IsAgainst ks left right i → ⊥)
+pub answered_none : (a : List State) (ks : List Kept) (ts : List Tree) (left right upto seen : ℕ) → IsDone a ks ts upto → length ks ≤ upto → upto ≤ seen → ((i : ℕ) → i < seen → IsAgainst ks left right i → ⊥)
     → (v : Plain) → takes a left v ≡ true → takes a right v ≡ true
-answered_none a ks ts left right done seen so_far le behind none v =
-    covered_right a ks left right (λ i l. none i (omega (arith, l, le, behind))) v (all_covered a ks ts done le so_far v)
+answered_none a ks ts left right upto seen so_far le behind none v =
+    covered_right a ks left right (λ i l. none i (omega (arith, l, le, behind))) v (all_covered a ks ts upto le so_far v)
 
 -- the label of a recipe is that of a kept profile
 kept_label : (ks : List Kept) (i n c r : ℕ) → slice_get (recipes ks) i ≡ Some (Elem n c r) → IsKeptLabel ks n
 kept_label ks i n c r e = let q = get_of-map (λ (k : Kept). k.from) ks i (Elem n c r) e in (i, q.0, q.1, subst (λ f. IsRecipeLabel f n) q.2 refl)
 
--- what is found in the part answers for the whole
-pub found_answers : (a part : List State) (groups : List Group) (any : List Link) (other : ℕ) (k1 ks : List Kept) (t1 ts : List Tree) (left right : ℕ) (found : Option ℕ) → IsPartOf a left right part → IndexesElements part groups any → ((n : ℕ) → IsUsed k1 t1 n → ⊥)
-    → LabelsGrow groups other k1 t1 ks ts → IsFound part ks left right found → IsAnswer a other ks left right found
-found_answers a part groups any other k1 ks t1 ts left right None same elements none labels f = λ v t. sym (same.right v) ∙ f v (same.left v ∙ t)
-found_answers a part groups any other k1 ks t1 ts left right (Some i) same elements none labels (kept, inside, (on, off)) = (
-  kept.older,
-  inside,
-  sym (same.left (forest_of ks i)) ∙ (kept.profiles i inside left).0 on,
-  sym (same.right (forest_of ks i)) ∙ false_from_ne_true _ (λ t. (let x : true ≡ false = sym ((kept.profiles i inside right).1 t) ∙ off in cc)),
+-- what is found in the part answers for the whole: the right state takes all that the left one takes
+pub none_answers : (a part : List State) (other : ℕ) (ks : List Kept) (left right : ℕ) (found : Option ℕ) → IsPartOf a left right part → found ≡ None → IsFound part ks left right found → IsAnswer a other left right None
+none_answers a part other ks left right found same none f v t = sym (same.right v) ∙ subst (IsFound part ks left right) none f v (same.left v ∙ t)
+
+-- or there is a kept profile against it, whose recipe may be followed
+pub may_build : (part : List State) (ks : List Kept) (left right : ℕ) (found : Option ℕ) (place : ℕ) (rs : List Recipe) → found ≡ Some place → IsFound part ks left right found → rs ≡ recipes ks → AreOlder rs × (place < length rs)
+may_build part ks left right found place rs is f same =
+    let against = subst (IsFound part ks left right) is f in
+    (subst AreOlder (sym same) against.0.older, (let l : place < length ks = against.1 in omega (arith, l, ap length same, length-map ks (λ (k : Kept). k.from))))
+
+-- and its forest shows it
+pub some_answers : (a part : List State) (groups : List Group) (any : List Link) (other : ℕ) (k1 ks : List Kept) (t1 ts : List Tree) (left right : ℕ) (found : Option ℕ) (i : ℕ) (rs : List Recipe) (d : Draft (Unit {0})) → IsPartOf a left right part → IndexesElements part groups any → ((n : ℕ) → IsUsed k1 t1 n → ⊥)
+    → LabelsGrow groups other k1 t1 ks ts → found ≡ Some i → IsFound part ks left right found → rs ≡ recipes ks → d ≡ done (forest_at (forests rs) i) → IsAnswer a other left right (Some d)
+some_answers a part groups any other k1 ks t1 ts left right found i rs d same elements none labels is f from whole = (
+  forest_of ks i,
+  whole ∙ ap (λ l. done (forest_at (forests l) i)) from,
+  sym (same.left (forest_of ks i)) ∙ (kept.0.profiles i kept.1 left).0 kept.2.0,
+  sym (same.right (forest_of ks i)) ∙ false_from_ne_true _ (λ t. (let x : true ≡ false = sym ((kept.0.profiles i kept.1 right).1 t) ∙ kept.2.1 in cc)),
   forests_labelled (λ n. (n ≡ other) ⊎ IsEdgeLabel a n) [] (recipes ks) (λ j. tt) (λ j n c r e. shown n (kept_label ks j n c r e)) i,
 )
   where
+    kept : IsFound part ks left right (Some i)
+    kept = subst (IsFound part ks left right) is f
+
     shown : (n : ℕ) → IsKeptLabel ks n → (n ≡ other) ⊎ IsEdgeLabel a n
     shown n h = elim (labels n (inl h)) [
       | inl used ↦ absurd (none n used)

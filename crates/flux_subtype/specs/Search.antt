@@ -2,11 +2,11 @@
 use Rattle.std.specs.Prelude.{◌≡◌, ◌⊎◌, ◌↔◌, ℕ, ◌<◌, ◌≤◌, ◌+◌, List, [], ◌++◌, Bool, true, false, Option, Some, None, length, slice_get}
 use Rattle.flux_atom.specs.declared.atom.AtomKind.{AtomKind}
 use Rattle.flux_trees.specs.Hedge.{Plain, nil}
+use Rattle.flux_trees.specs.Draft.{Draft, done}
 use Rattle.flux_trees.specs.Each.{EachLabel}
 use Rattle.flux_auto.specs.declared.recipe.Recipe.{Recipe}
 use Rattle.flux_auto.specs.declared.recipe.Recipe.TheVariants as recipe
 use Rattle.flux_auto.specs.Takes.{State, has, takes}
-use Rattle.flux_auto.specs.Witness.{AreOlder}
 use Rattle.flux_subtype.specs.declared.index.Move.{Move}
 use Rattle.flux_subtype.specs.declared.index.Group.{Group}
 use Rattle.flux_subtype.specs.declared.index.Link.{Link}
@@ -16,7 +16,7 @@ use Rattle.flux_subtype.specs.declared.trees.Head.TheVariants.{Atom, Elem}
 use Rattle.flux_subtype.specs.declared.trees.Tree.{Tree}
 use Rattle.flux_subtype.specs.Going.{Has, IsEdgeLabel, IsProfile, IsDead}
 use Rattle.flux_subtype.specs.Index.{Moves, HasGroup, AreWide, AreWideLinks, AreWideGroups, ByAtom, ByElement, ByLinks}
-use Rattle.flux_subtype.specs.Kept.{recipes, forest_of, set_at, IsKeptLabel, AreKept, Grows}
+use Rattle.flux_subtype.specs.Kept.{set_at, IsKeptLabel, AreKept, Grows}
 
 -- the profile of a tree and a rest with the profile q is p, where the tree makes the moves
 abbrev pub Fires : List Move → List Bool → List Bool → Type 0
@@ -160,10 +160,10 @@ abbrev pub IsFound : List State → List Kept → ℕ → ℕ → Option ℕ →
 IsFound a ks left right None = (v : Plain) → takes a left v ≡ true → takes a right v ≡ true
 IsFound a ks left right (Some i) = AreKept a ks × (i < length ks) × IsAgainst ks left right i
 
--- none: the right state takes all that the left one takes; else a forest that it doesn't take, each
--- label of which is `other` or that of an edge
-abbrev pub IsAnswer : List State → ℕ → List Kept → ℕ → ℕ → Option ℕ → Type 0
-IsAnswer a other ks left right None = (v : Plain) → takes a left v ≡ true → takes a right v ≡ true
-IsAnswer a other ks left right (Some i) = AreOlder (recipes ks) × (i < length ks)
-    × (takes a left (forest_of ks i) ≡ true) × (takes a right (forest_of ks i) ≡ false)
-    × EachLabel (λ n. (n ≡ other) ⊎ IsEdgeLabel a n) (forest_of ks i)
+-- none: the right state takes all that the left one takes; else a whole forest that the left state
+-- takes and the right one doesn't, each label of which is `other` or that of an edge
+abbrev pub IsAnswer : List State → ℕ → ℕ → ℕ → Option (Draft (Unit {0})) → Type 0
+IsAnswer a other left right None = (v : Plain) → takes a left v ≡ true → takes a right v ≡ true
+IsAnswer a other left right (Some d) =
+    (v : Plain) × (d ≡ done v) × (takes a left v ≡ true) × (takes a right v ≡ false)
+    × EachLabel (λ n. (n ≡ other) ⊎ IsEdgeLabel a n) v

@@ -2,10 +2,9 @@
 ghost use Rattle.std.specs.Prelude.{◌≡◌};
 ghost use Rattle.flux_schema.specs.Labels.{BodiesLack};
 
-use crate::kept::recipes_of;
 use crate::search::search;
 use flux_atom::Name;
-use flux_auto::{Auto, build};
+use flux_auto::Auto;
 use flux_types::{Decider, Defs, Ty, Verdict};
 use std::alloc::{AllocError, Global};
 use std::marker::Model;
@@ -76,14 +75,10 @@ impl<'d> Decider for Profiles<'d> {
         if left == right {
             return Ok(Verdict::Yes);
         }
-        let mut kept = Vec::new(alloc);
-        let found = search(alloc, &auto, self.other, left, right, &mut kept)?;
+        let found = search(alloc, &auto, self.other, left, right)?;
         match found {
             None => Ok(Verdict::Yes),
-            Some(place) => {
-                let recipes = recipes_of(alloc, &kept)?;
-                Ok(Verdict::No(build(alloc, &recipes, place as u64)?))
-            }
+            Some(forest) => Ok(Verdict::No(forest)),
         }
     }
 }

@@ -1,5 +1,5 @@
 // The search for a forest that one state takes and another doesn't.
-ghost use Rattle.std.specs.Prelude.{◌≡◌, ◌↔◌, ◌<◌, ◌≤◌, ◌+◌, ℕ, [], length, IfOk, IfSome, IfNone, IsTrue, true, false};
+ghost use Rattle.std.specs.Prelude.{◌≡◌, ◌↔◌, ◌<◌, ◌≤◌, ◌+◌, ℕ, length, IfOk, IfSome, IfNone, IsTrue, true, false};
 ghost use Rattle.flux_trees.specs.Hedge.{nil};
 ghost use Rattle.flux_auto.specs.Takes.{has};
 ghost use Rattle.flux_subtype.specs.Going.{IsProfile, LacksEdge};
@@ -7,14 +7,16 @@ ghost use Rattle.flux_subtype.specs.Index.{AreWide, IndexesElements};
 ghost use Rattle.flux_subtype.specs.Kept.{set_at, AreKept};
 ghost use Rattle.flux_subtype.specs.Search.{Fires, IsSilent, MovesBy, AreTrees, AnsweredBelow, Puts, Fills, FillsAll, IsDone, LabelsGrow, Turned, IsAgainst, IsFound, IsAnswer, recipe_of};
 
-use crate::index::{Group, Index, Link, Move, index_of};
-use crate::kept::{Kept, keep};
+use crate::index::{Index, Move, index_of};
+use crate::kept::{Kept, keep, recipes_of};
 use crate::part::Part;
 use crate::set::Set;
-use crate::trees::{Head, Tree, add_elements, add_tree};
+use crate::trees::{Elements, Head, Tree, add_elements, add_tree};
 use flux_atom::{AtomKind, Name};
-use flux_auto::{Auto, Recipe};
+use flux_auto::{Auto, Recipe, build};
+use flux_forest::Forest;
 use std::alloc::{AllocError, Global};
+use std::ops::Range;
 
 // The profile of the empty forest.
 fn nil_profile(alloc: Global, part: &Part<'_>) -> Result<Set, AllocError>
@@ -97,24 +99,31 @@ fn fill(
     part: &Part<'_>,
     kept: &mut Vec<Kept>,
     tree: &Tree,
-    from: usize,
-    to: usize,
+    rests: Range<usize>,
     guess: usize,
 ) -> Result<usize, AllocError>
     requires kept { AreKept part.now kept.old.items }
     requires tree { MovesBy part.now kept.old.items tree.now.head tree.now.moves.items }
     requires wide { AreWide (length part.now) tree.now.moves.items }
-    requires from { from ≤ to }
-    requires to { to ≤ length kept.old.items }
+    requires from { rests.start ≤ rests.end }
+    requires to { rests.end ≤ length kept.old.items }
     ensures { IfOk result
         (λ _. Fills part.now kept.old.items kept.new.items tree.now.head tree.now.moves.items
-        from to) }
+        rests.start rests.end) }
 {
     let mut place = guess;
-    for rest in from..to {
+    for rest in rests.start..rests.end {
         place = put(alloc, part, kept, tree, rest, place)?;
     }
     Ok(place)
+}
+
+// What the search has found: profiles, trees, and where the profile of each tree was put last.
+#[derive(Drop)]
+struct Found {
+    kept: Vec<Kept>,
+    trees: Vec<Tree>,
+    lasts: Vec<usize>,
 }
 
 // The place where the profile of a tree was put last.
@@ -136,24 +145,25 @@ fn set_last(lasts: &mut Vec<usize>, index: usize, place: usize) -> Result<(), Al
 fn fill_all(
     alloc: Global,
     part: &Part<'_>,
-    kept: &mut Vec<Kept>,
-    trees: &[Tree],
-    lasts: &mut Vec<usize>,
+    found: &mut Found,
     before: usize,
     done: usize,
 ) -> Result<(), AllocError>
-    requires kept { AreKept part.now kept.old.items }
-    requires trees { AreTrees part.now kept.old.items trees.now }
-    requires done { done < length kept.old.items }
-    requires answered { AnsweredBelow kept.old.items trees.now before done }
-    ensures { IfOk result (λ _. FillsAll part.now kept.old.items kept.new.items trees.now done
-        (length trees.now)) }
+    requires kept { AreKept part.now found.old.kept.items }
+    requires trees { AreTrees part.now found.old.kept.items found.old.trees.items }
+    requires done { done < length found.old.kept.items }
+    requires answered { AnsweredBelow found.old.kept.items found.old.trees.items before done }
+    ensures trees { IfOk result (λ _. found.new.trees.items ≡ found.old.trees.items) }
+    ensures fills { IfOk result
+        (λ _. FillsAll part.now found.old.kept.items found.new.kept.items found.old.trees.items done
+        (length found.old.trees.items)) }
 {
-    for index in 0..trees.len() {
+    for index in 0..found.trees.len() {
         let from = if index < before { done } else { 0 };
-        let guess = last_of(lasts, index);
-        let last = fill(alloc, part, kept, &trees[index], from, done + 1, guess)?;
-        set_last(lasts, index, last)?;
+        let guess = last_of(&found.lasts, index);
+        let tree = &found.trees[index];
+        let last = fill(alloc, part, &mut found.kept, tree, from..done + 1, guess)?;
+        set_last(&mut found.lasts, index, last)?;
     }
     Ok(())
 }
@@ -162,25 +172,22 @@ fn fill_all(
 fn turn(
     alloc: Global,
     part: &Part<'_>,
-    groups: &[Group],
-    any: &[Link],
-    other: Name,
-    kept: &mut Vec<Kept>,
-    trees: &mut Vec<Tree>,
-    lasts: &mut Vec<usize>,
+    elements: &Elements<'_>,
+    found: &mut Found,
     done: usize,
 ) -> Result<(), AllocError>
-    requires so_far { IsDone part.now kept.old.items trees.old.items done }
-    requires elements { IndexesElements part.now groups.now any.now }
-    requires lacks { LacksEdge part.now other }
-    requires done { done < length kept.old.items }
+    requires so_far { IsDone part.now found.old.kept.items found.old.trees.items done }
+    requires elements { IndexesElements part.now elements.now.groups.now elements.now.any.now }
+    requires lacks { LacksEdge part.now elements.now.other }
+    requires done { done < length found.old.kept.items }
     ensures { IfOk result
-        (λ _. Turned part.now groups.now other kept.old.items kept.new.items trees.old.items
-        trees.new.items done) }
+        (λ _. Turned part.now elements.now.groups.now elements.now.other found.old.kept.items
+        found.new.kept.items found.old.trees.items found.new.trees.items done) }
 {
-    let before = trees.len();
-    add_elements(alloc, groups, any, other, &kept[done].set, done, trees)?;
-    fill_all(alloc, part, kept, trees, lasts, before, done)?;
+    let before = found.trees.len();
+    let set = &found.kept[done].set;
+    add_elements(alloc, elements, set, done, &mut found.trees)?;
+    fill_all(alloc, part, found, before, done)?;
     Ok(())
 }
 
@@ -209,51 +216,44 @@ fn against(kept: &[Kept], from: usize, left: u64, right: u64) -> Option<usize>
 fn saturate(
     alloc: Global,
     part: &Part<'_>,
-    groups: &[Group],
-    any: &[Link],
-    other: Name,
+    elements: &Elements<'_>,
     left: u64,
     right: u64,
-    kept: &mut Vec<Kept>,
-    trees: &mut Vec<Tree>,
+    found: &mut Found,
 ) -> Result<Option<usize>, AllocError>
-    requires begun { IsDone part.now kept.old.items trees.old.items 0 }
-    requires elements { IndexesElements part.now groups.now any.now }
-    requires lacks { LacksEdge part.now other }
-    ensures found { IfOk result (IsFound part.now kept.new.items left right) }
-    ensures labels { IfOk result (λ _. LabelsGrow groups.now other kept.old.items trees.old.items
-        kept.new.items trees.new.items) }
+    requires begun { IsDone part.now found.old.kept.items found.old.trees.items 0 }
+    requires elements { IndexesElements part.now elements.now.groups.now elements.now.any.now }
+    requires lacks { LacksEdge part.now elements.now.other }
+    ensures found { IfOk result (IsFound part.now found.new.kept.items left right) }
+    ensures labels { IfOk result
+        (λ _. LabelsGrow elements.now.groups.now elements.now.other found.old.kept.items
+        found.old.trees.items found.new.kept.items found.new.trees.items) }
 {
-    let mut lasts = Vec::new(alloc);
     let mut done = 0;
     let mut seen = 0;
-    while done < kept.len() {
-        if let Some(index) = against(kept, seen, left, right) {
+    while done < found.kept.len() {
+        if let Some(index) = against(&found.kept, seen, left, right) {
             return Ok(Some(index));
         }
-        seen = kept.len();
-        turn(
-            alloc, part, groups, any, other, kept, trees, &mut lasts, done,
-        )?;
+        seen = found.kept.len();
+        turn(alloc, part, elements, found, done)?;
         done += 1;
     }
     Ok(None)
 }
 
-// A profile of a forest that the left state takes and the right one doesn't, if there is one.
+// A forest that the left state takes and the right one doesn't, if there is one.
 pub(crate) fn search(
     alloc: Global,
     auto: &Auto,
     other: Name,
     left: u64,
     right: u64,
-    kept: &mut Vec<Kept>,
-) -> Result<Option<usize>, AllocError>
+) -> Result<Option<Forest>, AllocError>
     requires lacks { LacksEdge auto.now.states other }
-    requires nothing { kept.old.items ≡ [] }
     requires left { left < length auto.now.states }
     requires right { right < length auto.now.states }
-    ensures { IfOk result (IsAnswer auto.now.states other kept.new.items left right) }
+    ensures { IfOk result (IsAnswer auto.now.states other left right) }
 {
     let part = Part::of(alloc, auto, left, right)?;
     let Index {
@@ -263,13 +263,24 @@ pub(crate) fn search(
         any,
         groups,
     } = index_of(alloc, &part)?;
-    let mut trees = Vec::new(alloc);
-    add_tree(&mut trees, Head::Atom(AtomKind::Bool), bools)?;
-    add_tree(&mut trees, Head::Atom(AtomKind::Text), texts)?;
-    add_tree(&mut trees, Head::Atom(AtomKind::Int), numbers)?;
-    keep(kept, nil_profile(alloc, &part)?, Recipe::End, 0)?;
-    let found = saturate(
-        alloc, &part, &groups, &any, other, left, right, kept, &mut trees,
-    )?;
-    Ok(found)
+    let mut found = Found {
+        kept: Vec::new(alloc),
+        trees: Vec::new(alloc),
+        lasts: Vec::new(alloc),
+    };
+    add_tree(&mut found.trees, Head::Atom(AtomKind::Bool), bools)?;
+    add_tree(&mut found.trees, Head::Atom(AtomKind::Text), texts)?;
+    add_tree(&mut found.trees, Head::Atom(AtomKind::Int), numbers)?;
+    keep(&mut found.kept, nil_profile(alloc, &part)?, Recipe::End, 0)?;
+    let elements = Elements {
+        groups: &groups,
+        any: &any,
+        other,
+    };
+    let Some(place) = saturate(alloc, &part, &elements, left, right, &mut found)? else {
+        return Ok(None);
+    };
+    let recipes = recipes_of(alloc, &found.kept)?;
+    let forest = build(alloc, &recipes, place as u64)?;
+    Ok(Some(forest))
 }

@@ -71,23 +71,30 @@ pub(crate) fn add_tree(
     Ok(())
 }
 
-// Keeps the elements of each label whose content has the profile at an index. An element of a label
-// that no group has goes by the links of any label alone, as one with the label `other` does.
+// The edges by elements: groups of links by labels, and links of any label. An element of a label
+// that no group has goes by the latter alone, as one with the label `other` does.
+#[derive(Clone, Copy)]
+pub(crate) struct Elements<'a> {
+    pub(crate) groups: &'a [Group],
+    pub(crate) any: &'a [Link],
+    pub(crate) other: Name,
+}
+
+// Keeps the elements of each label whose content has the profile at an index.
 pub(crate) fn add_elements(
     alloc: Global,
-    groups: &[Group],
-    any: &[Link],
-    other: Name,
+    elements: &Elements<'_>,
     set: &Set,
     content: usize,
     trees: &mut Vec<Tree>,
 ) -> Result<(), AllocError>
-    requires differ { Differ groups.now }
-    requires lacks { (s c r : ℕ) → HasLink groups.now s other c r → ⊥ }
+    requires differ { Differ elements.now.groups.now }
+    requires lacks { (s c r : ℕ) → HasLink elements.now.groups.now s elements.now.other c r → ⊥ }
     ensures { IfOk result
-        (λ _. AddsElements groups.now any.now other set.now content trees.old.items
-        trees.new.items) }
+        (λ _. AddsElements elements.now.groups.now elements.now.any.now elements.now.other set.now
+        content trees.old.items trees.new.items) }
 {
+    let Elements { groups, any, other } = *elements;
     let wide = moves_along(alloc, any, set)?;
     for index in 0..groups.len() {
         let group = &groups[index];

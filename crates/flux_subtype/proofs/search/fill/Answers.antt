@@ -20,5 +20,5 @@ loop-rest-preserved c = next_fill _ _ _ _ _ _ _ _ c.loop-rest.invariant (omega a
 
 pub returns : goal.returns
 returns c =
-    let e : c.loop-rest.rest ≡ c.args.to = omega (arith, c.loop-rest.auto.rest-end) in
-    subst (λ j. Fills c.args.part.now c.args.kept.now.items c.loop-rest.kept.items c.args.tree.now.head c.args.tree.now.moves.items c.args.from j) e c.loop-rest.invariant
+    let e : c.loop-rest.rest ≡ c.args.rests.end = omega (arith, c.loop-rest.auto.rest-end) in
+    subst (λ j. Fills c.args.part.now c.args.kept.now.items c.loop-rest.kept.items c.args.tree.now.head c.args.tree.now.moves.items c.args.rests.start j) e c.loop-rest.invariant

@@ -15,7 +15,7 @@ returns c =
 pub loop-index-preserved : goal.loop-index-preserved
 loop-index-preserved c =
     let g = c.index-groups-index.result in
-    let is = read_is c.args.groups.now c.loop-index.index g g c.loop-index-test.true c.index-groups-index.is in
+    let is = read_is c.args.elements.now.groups.now c.loop-index.index g g c.loop-index-test.true c.index-groups-index.is in
     let own = c.in_ok-moves.moves.items in
     let wide = c.in_ok-wide.wide.items in
     let both = c.in_ok-add_copies.ensures ∙ ap (λ ms. own ++ ms) c.deref-in-loop-index.ensures.value in
