@@ -25,8 +25,8 @@ use Rattle.flux_auto.proofs.Growing.{below_or_not, carried}
 use Rattle.flux_auto.proofs.Meaning.{get-map, get_of-map, content_takes}
 
 -- the same parts
-pub right_as : (defs : Definitions) (names : List Bool) (a b : Table) (xs ys : List Added) → b.cells.items ≡ a.cells.items → b.rows.items ≡ a.rows.items → ys ≡ xs → IsRight defs names a xs → IsRight defs names b ys
-right_as defs names a b xs ys e f g r = record {
+pub right_as : (defs : Definitions) (nullable : List Bool) (a b : Table) (xs ys : List Added) → b.cells.items ≡ a.cells.items → b.rows.items ≡ a.rows.items → ys ≡ xs → IsRight defs nullable a xs → IsRight defs nullable b ys
+right_as defs nullable a b xs ys e f g r = record {
   complete = record {
     ground = record {
       even = ap length f ∙ r.complete.ground.even ∙ ap length (sym e);
@@ -47,8 +47,8 @@ given-more defs ts t n (inr (u, k, l)) = inr (u, Contains-append_left ts (t ∷ 
 given-last : (defs : Definitions) (ts : List Ty) (t : Ty) (n : ℕ) → IsLabelOf n t → IsGiven defs (ts ++ t ∷ []) n
 given-last defs ts t n l = inr (t, Contains-append_right ts (t ∷ []) t (0, omega arith, refl), l)
 
-pub right_more : (defs : Definitions) (names : List Bool) (n : ℕ) (a b : Table) (xs ys : List Added) (d : Added) (t : Ty) → IsRight defs names a xs → Grows n a b → Extended defs names b t d.state → LabelsMore defs a b t → ty_of d.ty ≡ t → ys ≡ xs ++ d ∷ [] → IsRight defs names b ys
-right_more defs names n a b xs ys d t r g x more e f = record {
+pub right_more : (defs : Definitions) (nullable : List Bool) (n : ℕ) (a b : Table) (xs ys : List Added) (d : Added) (t : Ty) → IsRight defs nullable a xs → Grows n a b → Extended defs nullable b t d.state → LabelsMore defs a b t → ty_of d.ty ≡ t → ys ≡ xs ++ d ∷ [] → IsRight defs nullable b ys
+right_more defs nullable n a b xs ys d t r g x more e f = record {
   complete = x.complete;
   contents = λ i k h.
       let h : slice_get (xs ++ d ∷ []) i ≡ Some k = ap (λ l. slice_get l i) (sym f) ∙ h in
@@ -64,37 +64,37 @@ right_more defs names n a b xs ys d t r g x more e f = record {
       subst (λ ts. IsGiven defs ts m) (sym types) (elim (more m h) [ inl k ↦ given-more defs (map (λ (k : Added). ty_of k.ty) xs) t m (r.labels m k) | inr l ↦ given-last defs (map (λ (k : Added). ty_of k.ty) xs) t m l ]);
 }
 
-pub members_shown : (defs : Definitions) (other : ℕ) (names : List Bool) (a : Table) (added : List Added) (i : ℕ) (d : Added) → IsRight defs names a added → slice_get added i ≡ Some d
+pub members_shown : (defs : Definitions) (other : ℕ) (nullable : List Bool) (a : Table) (added : List Added) (i : ℕ) (d : Added) → IsRight defs nullable a added → slice_get added i ≡ Some d
     → IfSome (slice_get (map (λ d. ty_of d.ty) added) i) (TakesMembers (shown defs other a added) d.state)
-members_shown defs other names a added i d r e =
-    subst (λ o. IfSome o (TakesMembers (shown defs other a added) d.state)) (sym (get-map (λ d. ty_of d.ty) added i d e)) (content_takes defs names a r.complete d.state (ty_of d.ty) (r.contents i d e))
+members_shown defs other nullable a added i d r e =
+    subst (λ o. IfSome o (TakesMembers (shown defs other a added) d.state)) (sym (get-map (λ d. ty_of d.ty) added i d e)) (content_takes defs nullable a r.complete d.state (ty_of d.ty) (r.contents i d e))
 
-pub member_shown : (defs : Definitions) (names : List Bool) (a : Table) (added : List Added) (i : ℕ) (d : Added) (found : Bool) (v : Plain) → IsRight defs names a added → slice_get added i ≡ Some d → found ≡ takes (states_of a) d.state v
+pub member_shown : (defs : Definitions) (nullable : List Bool) (a : Table) (added : List Added) (i : ℕ) (d : Added) (found : Bool) (v : Plain) → IsRight defs nullable a added → slice_get added i ≡ Some d → found ≡ takes (states_of a) d.state v
     → IfSome (slice_get (map (λ d. ty_of d.ty) added) i) (λ t. IsTrue found ↔ Member defs v t)
-member_shown defs names a added i d found v r e f =
-    let tells = content_takes defs names a r.complete d.state (ty_of d.ty) (r.contents i d e) v in
+member_shown defs nullable a added i d found v r e f =
+    let tells = content_takes defs nullable a r.complete d.state (ty_of d.ty) (r.contents i d e) v in
     subst (λ o. IfSome o (λ t. IsTrue found ↔ Member defs v t)) (sym (get-map (λ d. ty_of d.ty) added i d e)) (λ h. tells.0 (sym f ∙ h), λ m. f ∙ tells.1 m)
 
 -- the labels of the edges
-pub edges_given : (defs : Definitions) (names : List Bool) (other : ℕ) (a : Table) (added : List Added) → IsRight defs names a added → EdgesGiven (shown defs other a added)
-edges_given defs names other a added r s state e i n c q f =
+pub edges_given : (defs : Definitions) (nullable : List Bool) (other : ℕ) (a : Table) (added : List Added) → IsRight defs nullable a added → EdgesGiven (shown defs other a added)
+edges_given defs nullable other a added r s state e i n c q f =
     let p = get_of-map state_of a.rows.items s state e in
     let lt : s < length a.cells.items = omega (arith, slice_get_within a.rows.items s p.0 p.1, r.complete.ground.even) in
     let edges : state.edges ≡ p.0.edges.items = ap (λ (z : State). z.edges) p.2 in
     r.labels n (labelled-at defs a.cells.items p.0.edges.items i n c q (r.complete.closed s p.0 lt p.1).labels (ap (λ l. slice_get l i) (sym edges) ∙ f))
 
 -- a forest that the state takes, or none
-pub some_shown : (defs : Definitions) (other : ℕ) (names : List Bool) (a : Table) (added : List Added) (i : ℕ) (d : Added) (found : Option (Draft (Unit {0}))) → IsRight defs names a added → slice_get added i ≡ Some d → IsTakenBy (states_of a) other d.state found
+pub some_shown : (defs : Definitions) (other : ℕ) (nullable : List Bool) (a : Table) (added : List Added) (i : ℕ) (d : Added) (found : Option (Draft (Unit {0}))) → IsRight defs nullable a added → slice_get added i ≡ Some d → IsTakenBy (states_of a) other d.state found
     → IfSome (slice_get (map (λ d. ty_of d.ty) added) i) (λ t. IsSomeMember (shown defs other a added) t found)
-some_shown defs other names a added i d found r e taken =
+some_shown defs other nullable a added i d found r e taken =
     subst (λ o. IfSome o (λ t. IsSomeMember (shown defs other a added) t found)) (sym (get-map (λ d. ty_of d.ty) added i d e)) (member_of found taken)
   where
     tells : (v : Plain) → (takes (states_of a) d.state v ≡ true) ↔ Member defs v (ty_of d.ty)
-    tells = content_takes defs names a r.complete d.state (ty_of d.ty) (r.contents i d e)
+    tells = content_takes defs nullable a r.complete d.state (ty_of d.ty) (r.contents i d e)
 
     given : (n : ℕ) → IsShownBy (states_of a) other n → (n ≡ other) ⊎ IsGiven defs (map (λ (k : Added). ty_of k.ty) added) n
     given n (inl is) = inl is
-    given n (inr (s, state, at, j, c, q, f)) = inr (edges_given defs names other a added r s state at j n c q f)
+    given n (inr (s, state, at, j, c, q, f)) = inr (edges_given defs nullable other a added r s state at j n c q f)
 
     member_of : (found : Option (Draft (Unit {0}))) → IsTakenBy (states_of a) other d.state found → IsSomeMember (shown defs other a added) (ty_of d.ty) found
     member_of (Some m) h = (h.0, (tells (outer m)).0 h.1, EachLabel-more (IsShownBy (states_of a) other) (λ n. (n ≡ other) ⊎ IsGiven defs (map (λ (k : Added). ty_of k.ty) added) n) given (outer m) h.2)

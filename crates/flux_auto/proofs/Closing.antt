@@ -24,7 +24,7 @@ use Rattle.flux_auto.proofs.Reading.{own_from, ground_on}
 module _ (defs : Definitions) where
   -- ---- one state closed
 
-  -- its type may be empty: it goes on as its tail does, too
+  -- its type is nullable: it goes on as its tail does, too
   closed_with : (cs : List Cell) (s : ℕ) (own tail row : Row) → (o : IsOwn defs cs s own) → own.ends ≡ true → IsClosed defs cs o.cell.tail tail → row.ends ≡ tail.ends → row.edges.items ≡ own.edges.items ++ tail.edges.items
       → IsClosed defs cs s row
   closed_with cs s own tail row o may k ends edges =
@@ -53,7 +53,7 @@ module _ (defs : Definitions) where
         );
       }
 
-  -- its type may not be empty: its own edges are all
+  -- its type isn't nullable: its own edges are all
   closed_alone : (cs : List Cell) (s : ℕ) (own : Row) → IsOwn defs cs s own → own.ends ≡ false → IsClosed defs cs s own
   closed_alone cs s own o lacks =
       let ts = lists cs in
@@ -186,8 +186,8 @@ module _ (defs : Definitions) where
         fresh = IsFresh-grows (length defs) a.cells.items more w.cell w.fresh;
       })
 
-  pub fills_ground : (names : List Bool) (n m i : ℕ) (a b : Table) → IsGround defs names a → Fills n m i a b → 0 < length a.cells.items → IsGround defs names b
-  fills_ground names n m i a b g x lt = ground_on defs names n a b g x.grows lt x.even
+  pub fills_ground : (nullable : List Bool) (n m i : ℕ) (a b : Table) → IsGround defs nullable a → Fills n m i a b → 0 < length a.cells.items → IsGround defs nullable b
+  fills_ground nullable n m i a b g x lt = ground_on defs nullable n a b g x.grows lt x.even
 
   pub fills_next : (n m i : ℕ) (a b c : Table) → n ≤ i → Fills n m i a b → Grows i b c → Filled defs b c i → Fills n m (i + 1) a c
   fills_next n m i a b c le x g y = record {

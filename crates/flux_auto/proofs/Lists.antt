@@ -9,7 +9,7 @@ use Rattle.flux_trees.proofs.HedgeLaws.{join-nil, join_assoc}
 use Rattle.flux_schema.specs.Ty.{Ty, empty, atom, element, any_element, seq, alt, star, named}
 use Rattle.flux_schema.specs.Definitions.{Definitions, body_of}
 use Rattle.flux_schema.specs.Member.{Member, in_empty, in_atom, in_element, in_any, in_seq, in_left, in_right, in_done, in_more, in_name}
-use Rattle.flux_auto.specs.Standing.{In, Starts, empties}
+use Rattle.flux_auto.specs.Standing.{In, Starts, is_nullable}
 use Rattle.flux_auto.proofs.Items.{some_is}
 
 pub nil_or : (v : Plain) → (v ≡ nil) ⊎ (v ≡ nil → ⊥)
@@ -68,36 +68,36 @@ module _ (defs : Definitions) where
             (r.0, r.1, r.2 ∙ rest, r.3, r.4, r.5)
       ]
 
-  -- ---- the empty forest
+  -- ---- nullable types
 
   either : (a b : Bool) → a || b ≡ true → (a ≡ true) ⊎ (b ≡ true)
   either true b e = inl refl
   either false b e = inr e
 
-  pub empties-sound : (q : ℕ → Bool) → ((x : ℕ) → q x ≡ true → Member defs nil (named x)) → (t : Ty) → empties q t ≡ true → Member defs nil t
-  empties-sound q s empty e = in_empty
-  empties-sound q s (atom a) e = cc
-  empties-sound q s (element n t) e = cc
-  empties-sound q s (any_element t) e = cc
-  empties-sound q s (seq t u) e = let p = and_parts _ _ e in in_seq nil nil refl (empties-sound q s t p.0) (empties-sound q s u p.1)
-  empties-sound q s (alt t u) e = elim (either _ _ e) [ inl h ↦ in_left u (empties-sound q s t h) | inr h ↦ in_right t (empties-sound q s u h) ]
-  empties-sound q s (star t) e = in_done t
-  empties-sound q s (named x) e = s x e
+  pub is_nullable-sound : (q : ℕ → Bool) → ((x : ℕ) → q x ≡ true → Member defs nil (named x)) → (t : Ty) → is_nullable q t ≡ true → Member defs nil t
+  is_nullable-sound q s empty e = in_empty
+  is_nullable-sound q s (atom a) e = cc
+  is_nullable-sound q s (element n t) e = cc
+  is_nullable-sound q s (any_element t) e = cc
+  is_nullable-sound q s (seq t u) e = let p = and_parts _ _ e in in_seq nil nil refl (is_nullable-sound q s t p.0) (is_nullable-sound q s u p.1)
+  is_nullable-sound q s (alt t u) e = elim (either _ _ e) [ inl h ↦ in_left u (is_nullable-sound q s t h) | inr h ↦ in_right t (is_nullable-sound q s u h) ]
+  is_nullable-sound q s (star t) e = in_done t
+  is_nullable-sound q s (named x) e = s x e
 
-  -- where each name whose body has the empty forest is marked
-  pub empties-complete : (q : ℕ → Bool) → ((x : ℕ) (t : Ty) → body_of defs x ≡ Some t → empties q t ≡ true → q x ≡ true) → (v : Plain) (t : Ty) → Member defs v t → v ≡ nil → empties q t ≡ true
-  empties-complete q f _ _ in_empty e = refl
-  empties-complete q f _ _ (in_atom x is) e = cc
-  empties-complete q f _ _ (in_element n m) e = cc
-  empties-complete q f _ _ (in_any n m) e = cc
-  empties-complete q f _ _ (in_seq v w j m n) e =
+  -- where each name whose body is nullable is marked
+  pub is_nullable-complete : (q : ℕ → Bool) → ((x : ℕ) (t : Ty) → body_of defs x ≡ Some t → is_nullable q t ≡ true → q x ≡ true) → (v : Plain) (t : Ty) → Member defs v t → v ≡ nil → is_nullable q t ≡ true
+  is_nullable-complete q f _ _ in_empty e = refl
+  is_nullable-complete q f _ _ (in_atom x is) e = cc
+  is_nullable-complete q f _ _ (in_element n m) e = cc
+  is_nullable-complete q f _ _ (in_any n m) e = cc
+  is_nullable-complete q f _ _ (in_seq v w j m n) e =
       let p = nil_parts v w (j ∙ e) in
-      ap₂ (λ a b. a && b) (empties-complete q f _ _ m p.0) (empties-complete q f _ _ n p.1)
-  empties-complete q f _ _ (in_left u m) e = ap (λ a. a || empties q u) (empties-complete q f _ _ m e)
-  empties-complete q f _ _ (in_right t m) e = or_right _ _ (empties-complete q f _ _ m e)
-  empties-complete q f _ _ (in_done t) e = refl
-  empties-complete q f _ _ (in_more v w j m n) e = refl
-  empties-complete q f _ _ (in_name x {t} is m) e = f x t is (empties-complete q f _ _ m e)
+      ap₂ (λ a b. a && b) (is_nullable-complete q f _ _ m p.0) (is_nullable-complete q f _ _ n p.1)
+  is_nullable-complete q f _ _ (in_left u m) e = ap (λ a. a || is_nullable q u) (is_nullable-complete q f _ _ m e)
+  is_nullable-complete q f _ _ (in_right t m) e = or_right _ _ (is_nullable-complete q f _ _ m e)
+  is_nullable-complete q f _ _ (in_done t) e = refl
+  is_nullable-complete q f _ _ (in_more v w j m n) e = refl
+  is_nullable-complete q f _ _ (in_name x {t} is m) e = f x t is (is_nullable-complete q f _ _ m e)
 
   -- ---- a type and then a list
 

@@ -11,7 +11,7 @@ use Rattle.flux_auto.specs.declared.table.Cell.{Cell}
 use Rattle.flux_auto.specs.declared.table.Row.{Row}
 use Rattle.flux_auto.specs.declared.table.Table.{Table}
 use Rattle.flux_auto.specs.Takes.{EdgesBelow}
-use Rattle.flux_auto.specs.Standing.{In, at, lists, FollowsAny, TellsEmpty, Ready, IsContent, EdgesLabelled}
+use Rattle.flux_auto.specs.Standing.{In, at, lists, FollowsAny, TellsNullable, Ready, IsContent, EdgesLabelled}
 use Rattle.flux_auto.specs.Built.{Grows, Put, IsEven, IsGround, IsClosed, FreshFrom, Registered, PutContent, ClosedBelow, IsComplete, IsBegun, NoNewLabels, LabelsOfBodies, LabelsMore, Extended}
 use Rattle.flux_auto.proofs.Lists.{end-in, in-end}
 use Rattle.flux_auto.proofs.Items.{some_is}
@@ -91,8 +91,8 @@ module _ (defs : Definitions) where
     labels = λ m h. elim h [ inl k ↦ k | inr k ↦ elim (r.labels m k) [ inl o ↦ x.labels m (inr o) | inr l ↦ (n, t, body, l) ] ];
   }
 
-  pub begins_ground : (names : List Bool) (n : ℕ) (a b : Table) → TellsEmpty defs names → IsBegun a → Begins n a b → length defs ≤ n → IsGround defs names b
-  begins_ground names n a b tells g x le = record {
+  pub begins_ground : (nullable : List Bool) (n : ℕ) (a b : Table) → TellsNullable defs nullable → IsBegun a → Begins n a b → length defs ≤ n → IsGround defs nullable b
+  begins_ground nullable n a b tells g x le = record {
     even = x.even;
     end = carried (λ l. at (lists l) 0 ≡ empty ∷ []) 1 a b x.grows (λ more. at-grows a.cells.items more 0 (omega (arith, g.one)) ∙ g.end);
     tells = tells;
@@ -105,13 +105,13 @@ module _ (defs : Definitions) where
   -- ---- a type more
 
   -- the contents of the type have states, as has the type
-  module _ (names : List Bool) (a b c : Table) (t : Ty) (s : ℕ) (whole : IsComplete defs names a) (begun : 1 ≤ length a.cells.items) (known : NamesBelow (length defs) t)
+  module _ (nullable : List Bool) (a b c : Table) (t : Ty) (s : ℕ) (whole : IsComplete defs nullable a) (begun : 1 ≤ length a.cells.items) (known : NamesBelow (length defs) t)
       (g : Grows (length a.rows.items) a b) (r : Registered a b t) (h : Grows (length b.rows.items) b c) (p : PutContent b c t s) where
     pub both_grow : Grows (length a.rows.items) a c
     both_grow = grows_by (length a.rows.items) (length b.rows.items) a b c g.longer g h
 
-    pub extended_ground : IsGround defs names c
-    extended_ground = ground_on defs names (length a.rows.items) a c whole.ground both_grow (omega (arith, begun)) p.even
+    pub extended_ground : IsGround defs nullable c
+    extended_ground = ground_on defs nullable (length a.rows.items) a c whole.ground both_grow (omega (arith, begun)) p.even
 
     pub extended_fresh : FreshFrom (length defs) (length a.cells.items) c.cells.items
     extended_fresh = fresh_on (length defs) (length b.rows.items) (length a.cells.items) b c (r.fresh (length defs) known) h (p.fresh (length defs) (r.ready (length defs) known))
@@ -126,11 +126,11 @@ module _ (defs : Definitions) where
     pub extended_closed : ClosedBelow defs (length a.cells.items) c
     extended_closed = closed_carried defs (length a.cells.items) a c (omega arith) whole.closed (subst (λ n. Grows n a c) whole.ground.even both_grow)
 
-  pub extended_by : (names : List Bool) (n : ℕ) (c d : Table) (t : Ty) (s : ℕ) → IsContent c.cells.items s t → Grows n c d → IsComplete defs names d → Extended defs names d t s
-  extended_by names n c d t s k g whole = record { complete = whole; content = carried (λ l. IsContent l s t) n c d g (λ more. IsContent-grows c.cells.items more s t k) }
+  pub extended_by : (nullable : List Bool) (n : ℕ) (c d : Table) (t : Ty) (s : ℕ) → IsContent c.cells.items s t → Grows n c d → IsComplete defs nullable d → Extended defs nullable d t s
+  extended_by nullable n c d t s k g whole = record { complete = whole; content = carried (λ l. IsContent l s t) n c d g (λ more. IsContent-grows c.cells.items more s t k) }
 
-pub has_end : (defs : Definitions) (names : List Bool) (a : Table) → IsGround defs names a → 1 ≤ length a.cells.items
-has_end defs names a g = some_cell a.cells.items g.end
+pub has_end : (defs : Definitions) (nullable : List Bool) (a : Table) → IsGround defs nullable a → 1 ≤ length a.cells.items
+has_end defs nullable a g = some_cell a.cells.items g.end
   where
     some_cell : (cs : List Cell) → at (lists cs) 0 ≡ empty ∷ [] → 1 ≤ length cs
     some_cell [] e = cc

@@ -83,7 +83,7 @@ module _ (defs : Definitions) (ts : List (List Ty)) (n : ℕ) where
       any_by true b f g = (λ e. inl (f.0 refl), λ h. refl)
       any_by false b f g = (λ e. inr (g.0 e), λ h. elim h [ inl h ↦ (let x : false ≡ true = f.1 h in cc) | inr h ↦ g.1 h ])
 
-module _ (defs : Definitions) (names : List Bool) (a : Table) (whole : IsComplete defs names a) where
+module _ (defs : Definitions) (nullable : List Bool) (a : Table) (whole : IsComplete defs nullable a) where
   row_closed : (s : ℕ) → s < length a.cells.items → (r : Row) × (slice_get a.rows.items s ≡ Some r) × IsClosed defs a.cells.items s r
   row_closed s lt =
       let r = got a.rows.items s (omega (arith, lt, whole.ground.even)) in
@@ -132,14 +132,14 @@ get-map_as : {A B : Type 0} (f : A → B) (xs ys : List A) (s : ℕ) → slice_g
 get-map_as f xs ys s e lt = let x = got xs s lt in get-map f ys s x.0 (e ∙ x.1) ∙ sym (get-map f xs s x.0 x.1)
 
 -- a table that grew
-pub states_kept : (defs : Definitions) (names : List Bool) (a b : Table) → IsComplete defs names a → IsComplete defs names b → Grows (length a.rows.items) a b → KeepsStates (states_of a) (states_of b)
-states_kept defs names a b x y g = record {
+pub states_kept : (defs : Definitions) (nullable : List Bool) (a b : Table) → IsComplete defs nullable a → IsComplete defs nullable b → Grows (length a.rows.items) a b → KeepsStates (states_of a) (states_of b)
+states_kept defs nullable a b x y g = record {
   states = λ s lt. get-map_as state_of a.rows.items b.rows.items s (g.rows s (omega (arith, lt, length-map state_of a.rows.items))) (omega (arith, lt, length-map state_of a.rows.items));
   taken = λ s v lt.
       let in_a : s < length a.cells.items = omega (arith, lt, length-map state_of a.rows.items, x.ground.even) in
       let in_b : s < length b.cells.items = omega (arith, in_a, ap length g.cells, length-append a.cells.items g.more) in
       let list : at (lists b.cells.items) s ≡ at (lists a.cells.items) s = carried (λ l. at (lists l) s ≡ at (lists a.cells.items) s) (length a.rows.items) a b g (λ more. at-grows a.cells.items more s in_a) in
-      let t = profile_tells defs names a x v s in_a in
-      let u = profile_tells defs names b y v s in_b in
+      let t = profile_tells defs nullable a x v s in_a in
+      let u = profile_tells defs nullable b y v s in_b in
       same_tests (takes (states_of b) s v) (takes (states_of a) s v) (λ e. t.1 (subst (In defs v) list (u.0 e))) (λ e. u.1 (subst (In defs v) (sym list) (t.0 e)));
 }

@@ -14,9 +14,9 @@ use Rattle.flux_auto.specs.declared.table.Cell.{Cell}
 use Rattle.flux_auto.specs.declared.table.Row.{Row}
 use Rattle.flux_auto.specs.declared.table.Table.{Table}
 use Rattle.flux_auto.specs.Takes.{has, EdgesBelow}
-use Rattle.flux_auto.specs.Standing.{In, empties, TellsEmpty, at, lists, FollowsAny, Starts, Ready, IsTableLabel, LabelsStand, EdgesLabelled, Reads, IsContent}
+use Rattle.flux_auto.specs.Standing.{In, is_nullable, TellsNullable, at, lists, FollowsAny, Starts, Ready, IsTableLabel, LabelsStand, EdgesLabelled, Reads, IsContent}
 use Rattle.flux_auto.specs.Built.{Grows, Put, IsSet, IsEven, IsGround, IsOwn, OwnFrom, NoNewLabels, Linear}
-use Rattle.flux_auto.proofs.Lists.{empties-sound, empties-complete, starts-empty, starts-atom, atom-starts, starts-element, element-starts, starts-any, any-starts, starts-seq, seq-starts_first, seq-starts_second, starts-alt, alt-starts_left, alt-starts_right, starts-star, star-starts, starts-name, name-starts, alone-in, in-alone}
+use Rattle.flux_auto.proofs.Lists.{is_nullable-sound, is_nullable-complete, starts-empty, starts-atom, atom-starts, starts-element, element-starts, starts-any, any-starts, starts-seq, seq-starts_first, seq-starts_second, starts-alt, alt-starts_left, alt-starts_right, starts-star, star-starts, starts-name, name-starts, alone-in, in-alone}
 use Rattle.flux_auto.proofs.Items.{some_is, get-append, get-end}
 use Rattle.flux_auto.proofs.Tables.{at-grows, at-cell, edges-append, any-left, any-right, any-cases, Reads-grows, IsOwn-grows, Ready-grows, labels-stand-grow, labelled-append}
 use Rattle.flux_auto.proofs.Growing.{below_or_not, grows-length, carried}
@@ -25,8 +25,8 @@ use Rattle.flux_auto.proofs.Contents.{put-cell}
 module _ (defs : Definitions) where
   -- ---- what grows
 
-  pub ground_on : (names : List Bool) (n : ℕ) (a b : Table) → IsGround defs names a → Grows n a b → 0 < length a.cells.items → IsEven b → IsGround defs names b
-  ground_on names n a b g r lt even = record {
+  pub ground_on : (nullable : List Bool) (n : ℕ) (a b : Table) → IsGround defs nullable a → Grows n a b → 0 < length a.cells.items → IsEven b → IsGround defs nullable b
+  ground_on nullable n a b g r lt even = record {
     even = even;
     end = carried (λ l. at (lists l) 0 ≡ empty ∷ []) n a b r (λ more. at-grows a.cells.items more 0 lt ∙ g.end);
     tells = g.tells;
@@ -110,12 +110,12 @@ module _ (defs : Definitions) where
       (own_from b.cells.items s p.row p.cell head tail edges (put-cell a b head tail ends edges s p) p.head_is p.tail_is p.edges_are (omega (arith, lt, p.state)) reads
       (λ b. is.0 (sym p.ends_is ∙ b), λ m. p.ends_is ∙ is.1 m)))
 
-  -- ---- what the empty forest is a member of
+  -- ---- nullable types
 
-  pub null_iff : (names : List Bool) → TellsEmpty defs names → (r : Bool) (t : Ty) → r ≡ empties (has names) t → (r ≡ true) ↔ Member defs nil t
-  null_iff names tells r t e =
-      let sound = empties-sound defs (has names) (λ x h. (tells x).0 h) in
-      (λ h. sound t (sym e ∙ h), λ m. e ∙ empties-complete defs (has names) (λ x u is h. (tells x).1 (in_name x is (sound u h))) nil t m refl)
+  pub null_iff : (nullable : List Bool) → TellsNullable defs nullable → (r : Bool) (t : Ty) → r ≡ is_nullable (has nullable) t → (r ≡ true) ↔ Member defs nil t
+  null_iff nullable tells r t e =
+      let sound = is_nullable-sound defs (has nullable) (λ x h. (tells x).0 h) in
+      (λ h. sound t (sym e ∙ h), λ m. e ∙ is_nullable-complete defs (has nullable) (λ x u is h. (tells x).1 (in_name x is (sound u h))) nil t m refl)
 
   -- ---- no state more
 
@@ -222,7 +222,7 @@ module _ (defs : Definitions) where
         };
       })
 
-  -- the edges of the second part are there only where the first may be empty
+  -- the edges of the second part are there only where the first is nullable
   any-cond : (ts : List (List Ty)) (b : Bool) (es : List Edge) (z : Plain) → FollowsAny defs ts (cond b es []) z → (b ≡ true) × FollowsAny defs ts es z
   any-cond ts true es z h = (refl, h)
   any-cond ts false es z h = absurd h

@@ -13,7 +13,7 @@ use Rattle.flux_auto.specs.declared.linear.Task.{Task}
 use Rattle.flux_auto.specs.declared.linear.Task.TheVariants.{Read, First, Row}
 use Rattle.flux_auto.specs.declared.linear.Work.{Work}
 use Rattle.flux_auto.specs.Takes.{has}
-use Rattle.flux_auto.specs.Standing.{Ready, LabelsStand, empties}
+use Rattle.flux_auto.specs.Standing.{Ready, LabelsStand, is_nullable}
 use Rattle.flux_auto.specs.Built.{Grows, Put, IsEven, IsSet, IsGround, Linear}
 use Rattle.flux_auto.specs.Pending.{ComesType, ComesFirst, ComesRow, Comes, AllCome, effort, task_effort, all_effort, IsEffort, HasRead, Opens, PutsSecond}
 use Rattle.flux_auto.proofs.Growing.{grows_by, grows_on, grows_same, grows_set, grows-length}
@@ -198,13 +198,13 @@ opens_as defs t u tail a b v w e o = subst (λ x. Opens defs x tail a v b w) (sy
 -- ---- the loop
 
 -- what is done and what is still to be done come to the edges of the type
-pub record Runs (defs : Definitions) (names : List Bool) (a : Table) (t : Ty) (tail : ℕ) (b : Table) (tasks : List Task) (es : List Edge) : Type 0 where
+pub record Runs (defs : Definitions) (nullable : List Bool) (a : Table) (t : Ty) (tail : ℕ) (b : Table) (tasks : List Task) (es : List Edge) : Type 0 where
   pub grows : Grows (length a.rows.items) a b
-  pub ground : IsGround defs names b
+  pub ground : IsGround defs nullable b
   pub come : AllCome defs (length a.rows.items) tasks (λ c all. Linear defs a c t tail all) b es
 
-module _ (defs : Definitions) (names : List Bool) (a : Table) (tail : ℕ) where
-  pub runs_begin : (x : Bor Tree) (tasks : List Task) (es : List Edge) → IsGround defs names a → Ready (length defs) a.cells.items (ty_of x.now) → LabelsStand defs a.cells.items (ty_of x.now) → tail < length a.cells.items → tasks ≡ Read x tail ∷ [] → es ≡ [] → Runs defs names a (ty_of x.now) tail a tasks es
+module _ (defs : Definitions) (nullable : List Bool) (a : Table) (tail : ℕ) where
+  pub runs_begin : (x : Bor Tree) (tasks : List Task) (es : List Edge) → IsGround defs nullable a → Ready (length defs) a.cells.items (ty_of x.now) → LabelsStand defs a.cells.items (ty_of x.now) → tail < length a.cells.items → tasks ≡ Read x tail ∷ [] → es ≡ [] → Runs defs nullable a (ty_of x.now) tail a tasks es
   runs_begin x tasks es g r ls lt k e = record {
     grows = grows_same (length a.rows.items) a (omega arith);
     ground = g;
@@ -214,7 +214,7 @@ module _ (defs : Definitions) (names : List Bool) (a : Table) (tail : ℕ) where
         (subst (λ l. Comes defs (length a.rows.items) (Read x tail) aim a l) (sym e) (record { ready = r; labels = ls; there = lt; meets = λ b more h l. l }));
   }
 
-  module _ (t : Ty) (b : Table) (all rest : List Task) (es : List Edge) (k : Task) (runs : Runs defs names a t tail b all es) (is : all ≡ rest ++ k ∷ []) where
+  module _ (t : Ty) (b : Table) (all rest : List Task) (es : List Edge) (k : Task) (runs : Runs defs nullable a t tail b all es) (is : all ≡ rest ++ k ∷ []) where
     abbrev aim : Table → List Edge → Type 0
     aim c all = Linear defs a c t tail all
 
@@ -234,12 +234,12 @@ module _ (defs : Definitions) (names : List Bool) (a : Table) (tail : ℕ) where
     pub comes_row : (s i : ℕ) → k ≡ Row s i → ComesRow floor s i (AllCome defs floor rest aim) b es
     comes_row s i row = subst (λ j. Comes defs floor j (AllCome defs floor rest aim) b es) row last_comes
 
-    pub runs_read : (x : Bor Tree) (i : ℕ) (c : Table) (v w : Work) → k ≡ Read x i → v.tasks.items ≡ rest → v.edges.items ≡ es → Grows (length b.rows.items) b c → Opens defs (ty_of x.now) i b v c w → Runs defs names a t tail c w.tasks.items w.edges.items
+    pub runs_read : (x : Bor Tree) (i : ℕ) (c : Table) (v w : Work) → k ≡ Read x i → v.tasks.items ≡ rest → v.edges.items ≡ es → Grows (length b.rows.items) b c → Opens defs (ty_of x.now) i b v c w → Runs defs nullable a t tail c w.tasks.items w.edges.items
     runs_read x i c v w read vk ve g o =
         let come = comes_read x i read in
         record {
           grows = grows_by floor (length b.rows.items) a b c runs.grows.longer runs.grows g;
-          ground = ground_on defs names (length b.rows.items) b c runs.ground g (omega (arith, come.there)) o.even;
+          ground = ground_on defs nullable (length b.rows.items) b c runs.ground g (omega (arith, come.there)) o.even;
           come = subst (λ l. AllCome defs floor l aim c w.edges.items) (sym (o.tasks ∙ ap (λ l. l ++ o.more) vk))
               (all_join defs floor rest o.more aim c w.edges.items
               (all_weaker defs (length b.rows.items) floor o.more (HasRead defs (ty_of x.now) i b v.edges.items) (AllCome defs floor rest aim) runs.grows.longer
@@ -250,18 +250,18 @@ module _ (defs : Definitions) (names : List Bool) (a : Table) (tail : ℕ) where
     read_effort f x i c v w effort_is read vk o =
         omega (arith, ap (all_effort f) (o.tasks ∙ ap (λ l. l ++ o.more) vk), all_effort-append f rest o.more, o.fewer f effort_is, ap (all_effort f) is, all_effort-append f rest (k ∷ []), ap (task_effort f) read)
 
-    pub runs_second : (p : Pair) (c : Table) (v w : Work) → k ≡ First p → v.tasks.items ≡ rest → v.edges.items ≡ es → Grows (length b.rows.items) b c → PutsSecond names p b v c w → Runs defs names a t tail c w.tasks.items w.edges.items
+    pub runs_second : (p : Pair) (c : Table) (v w : Work) → k ≡ First p → v.tasks.items ≡ rest → v.edges.items ≡ es → Grows (length b.rows.items) b c → PutsSecond nullable p b v c w → Runs defs nullable a t tail c w.tasks.items w.edges.items
     runs_second p c v w first vk ve g o =
         let come = comes_first p first in
         let left = ty_of p.left.now in
         let right = ty_of p.right.now in
-        let ends = empties (has names) right in
-        let nulls = empties (has names) left in
+        let ends = is_nullable (has nullable) right in
+        let nulls = is_nullable (has nullable) left in
         let put : Put b c right p.next ends (drop p.from es) o.state = subst (λ l. Put b c right p.next ends (drop p.from l) o.state) ve o.put in
         let edges : w.edges.items ≡ cond nulls es (take p.from es) = o.edges ∙ ap (λ l. cond nulls l (take p.from l)) ve in
         record {
           grows = grows_by floor (length b.rows.items) a b c runs.grows.longer runs.grows g;
-          ground = ground_on defs names (length b.rows.items) b c runs.ground g (omega (arith, come.there)) (put-even b c right p.next ends (drop p.from es) o.state runs.ground.even put);
+          ground = ground_on defs nullable (length b.rows.items) b c runs.ground g (omega (arith, come.there)) (put-even b c right p.next ends (drop p.from es) o.state runs.ground.even put);
           come = subst (λ l. AllCome defs floor l aim c w.edges.items) (sym (o.tasks ∙ ap (λ l. l ++ Read p.left o.state ∷ []) vk))
               (all_join defs floor rest (Read p.left o.state ∷ []) aim c w.edges.items (record {
                 ready = ready_on defs (length b.rows.items) (length defs) b c left come.ready g;
@@ -269,21 +269,21 @@ module _ (defs : Definitions) (names : List Bool) (a : Table) (tail : ℕ) where
                 there = put-below defs b c right p.next ends (drop p.from es) o.state put;
                 meets = λ d first h l.
                     subst (λ j. AllCome defs floor rest aim d (j ++ first)) (sym edges)
-                    (come.meets c d o.state ends nulls first put (null_iff defs names runs.ground.tells ends right refl) (null_iff defs names runs.ground.tells nulls left refl) h l);
+                    (come.meets c d o.state ends nulls first put (null_iff defs nullable runs.ground.tells ends right refl) (null_iff defs nullable runs.ground.tells nulls left refl) h l);
               }));
         }
 
-    pub second_effort : (f : ℕ → ℕ) (p : Pair) (c : Table) (v w : Work) → k ≡ First p → v.tasks.items ≡ rest → PutsSecond names p b v c w → all_effort f w.tasks.items < all_effort f all
+    pub second_effort : (f : ℕ → ℕ) (p : Pair) (c : Table) (v w : Work) → k ≡ First p → v.tasks.items ≡ rest → PutsSecond nullable p b v c w → all_effort f w.tasks.items < all_effort f all
     second_effort f p c v w first vk o =
         omega (arith, ap (all_effort f) (o.tasks ∙ ap (λ l. l ++ Read p.left o.state ∷ []) vk), all_effort-append f rest (Read p.left o.state ∷ []), ap (all_effort f) is, all_effort-append f rest (k ∷ []), ap (task_effort f) first)
 
-    pub runs_row : (s i : ℕ) (c : Table) → k ≡ Row s i → IsSet b c s true (drop i es) → Runs defs names a t tail c rest es
+    pub runs_row : (s i : ℕ) (c : Table) → k ≡ Row s i → IsSet b c s true (drop i es) → Runs defs nullable a t tail c rest es
     runs_row s i c row set =
         let come = comes_row s i row in
         let same : Grows floor b c = grows_set floor s b b c true (drop i es) come.late (grows_same floor b runs.grows.longer) set in
         record {
           grows = grows_set floor s a b c true (drop i es) come.late runs.grows set;
-          ground = ground_on defs names floor b c runs.ground same (omega (arith, come.there, runs.ground.even)) (set.same_length ∙ runs.ground.even ∙ ap length (sym set.cells));
+          ground = ground_on defs nullable floor b c runs.ground same (omega (arith, come.there, runs.ground.even)) (set.same_length ∙ runs.ground.even ∙ ap length (sym set.cells));
           come = come.meets c set;
         }
 

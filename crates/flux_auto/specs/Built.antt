@@ -11,7 +11,7 @@ use Rattle.flux_auto.specs.declared.table.Cell.{Cell}
 use Rattle.flux_auto.specs.declared.table.Row.{Row}
 use Rattle.flux_auto.specs.declared.table.Table.{Table}
 use Rattle.flux_auto.specs.Takes.{State, EdgesBelow}
-use Rattle.flux_auto.specs.Standing.{In, at, lists, FollowsAny, TellsEmpty, Ready, BodiesReady, IsHeadLabel, IsBodyLabel, IsTableLabel, EdgesLabelled, Reads, IsContent}
+use Rattle.flux_auto.specs.Standing.{In, at, lists, FollowsAny, TellsNullable, Ready, BodiesReady, IsHeadLabel, IsBodyLabel, IsTableLabel, EdgesLabelled, Reads, IsContent}
 
 -- a row for each cell
 abbrev pub IsEven : Table → Type 0
@@ -48,10 +48,10 @@ pub record IsSet (a b : Table) (s : ℕ) (ends : Bool) (edges : List Edge) : Typ
   pub same_length : length b.rows.items ≡ length a.rows.items
 
 -- the first state is the end, and what types are read with is there
-pub record IsGround (defs : Definitions) (names : List Bool) (a : Table) : Type 0 where
+pub record IsGround (defs : Definitions) (nullable : List Bool) (a : Table) : Type 0 where
   pub even : IsEven a
   pub end : at (lists a.cells.items) 0 ≡ empty ∷ []
-  pub tells : TellsEmpty defs names
+  pub tells : TellsNullable defs nullable
   pub bodies : BodiesReady defs a.cells.items
 
 -- a row that has the edges of its cell's type alone: the tail's aren't added yet
@@ -155,8 +155,8 @@ pub record Closed (defs : Definitions) (a b : Table) (s : ℕ) : Type 0 where
   pub closed : (r : Row) → slice_get b.rows.items s ≡ Some r → IsClosed defs b.cells.items s r
 
 -- each row has all edges of its state
-pub record IsComplete (defs : Definitions) (names : List Bool) (a : Table) : Type 0 where
-  pub ground : IsGround defs names a
+pub record IsComplete (defs : Definitions) (nullable : List Bool) (a : Table) : Type 0 where
+  pub ground : IsGround defs nullable a
   pub closed : ClosedBelow defs (length a.cells.items) a
 
 -- the end alone
@@ -177,7 +177,7 @@ LabelsMore defs a b t = (n : ℕ)
     → IsTableLabel defs b.cells.items n → IsTableLabel defs a.cells.items n ⊎ IsLabelOf n t
 
 -- a table with a state of a type
-pub record Extended (defs : Definitions) (names : List Bool) (a : Table) (t : Ty)
+pub record Extended (defs : Definitions) (nullable : List Bool) (a : Table) (t : Ty)
     (s : ℕ) : Type 0 where
-  pub complete : IsComplete defs names a
+  pub complete : IsComplete defs nullable a
   pub content : IsContent a.cells.items s t

@@ -12,7 +12,7 @@ use Rattle.flux_auto.specs.declared.linear.Task.{Task}
 use Rattle.flux_auto.specs.declared.linear.Task.TheVariants.{Read, First, Row}
 use Rattle.flux_auto.specs.declared.linear.Work.{Work}
 use Rattle.flux_auto.specs.Takes.{has}
-use Rattle.flux_auto.specs.Standing.{Ready, LabelsStand, empties}
+use Rattle.flux_auto.specs.Standing.{Ready, LabelsStand, is_nullable}
 use Rattle.flux_auto.specs.Built.{Grows, Put, IsSet, IsEven, Linear}
 
 -- An aim is what is to hold of a table and of the edges that were found.
@@ -27,7 +27,7 @@ pub record ComesType (defs : Definitions) (t : Ty) (tail : ℕ) (aim : Table →
       → Linear defs a b t tail more → aim b (es ++ more)
 
 -- the first part of a sequence is read before a new state, which has the edges from a place on:
--- the aim holds with its edges, and with those of the second part where the first may be empty
+-- the aim holds with its edges, and with those of the second part where the first is nullable
 pub record ComesFirst (defs : Definitions) (t u : Ty) (tail from : ℕ)
     (aim : Table → List Edge → Type 0) (a : Table) (es : List Edge) : Type 0 where
   pub ready : Ready (length defs) a.cells.items t
@@ -109,14 +109,14 @@ pub record Opens (defs : Definitions) (t : Ty) (tail : ℕ) (a : Table) (v : Wor
       (HasRead defs t tail a v.edges.items) b w.edges.items
   pub fewer : (f : ℕ → ℕ) → IsEffort defs f → all_effort f more < effort f t
 
--- a state was put for the second part of a sequence, whose edges stay where the first part may be
--- empty, and the first part is to be read before it
-pub record PutsSecond (names : List Bool) (p : Pair) (a : Table) (v : Work) (b : Table)
+-- a state was put for the second part of a sequence, whose edges stay where the first part is
+-- nullable, and the first part is to be read before it
+pub record PutsSecond (nullable : List Bool) (p : Pair) (a : Table) (v : Work) (b : Table)
     (w : Work) : Type 0 where
   pub state : ℕ
-  pub put : Put a b (ty_of p.right.now) p.next (empties (has names) (ty_of p.right.now))
+  pub put : Put a b (ty_of p.right.now) p.next (is_nullable (has nullable) (ty_of p.right.now))
       (drop p.from v.edges.items) state
-  pub edges : w.edges.items ≡ cond (empties (has names) (ty_of p.left.now)) v.edges.items
+  pub edges : w.edges.items ≡ cond (is_nullable (has nullable) (ty_of p.left.now)) v.edges.items
       (take p.from v.edges.items)
   pub tasks : w.tasks.items ≡ v.tasks.items ++ Read p.left state ∷ []
 

@@ -20,9 +20,9 @@ shown defs other table added = record {
 
 -- the table is complete, each type that was added has its state, and each label stands in a body or
 -- in one of these types
-pub record IsRight (defs : Definitions) (names : List Bool) (table : Table)
+pub record IsRight (defs : Definitions) (nullable : List Bool) (table : Table)
     (added : List Added) : Type 0 where
-  pub complete : IsComplete defs names table
+  pub complete : IsComplete defs nullable table
   pub contents : (i : ℕ) (d : Added) → slice_get added i ≡ Some d
       → IsContent table.cells.items d.state (ty_of d.ty)
   pub labels : (n : ℕ) → IsTableLabel defs table.cells.items n

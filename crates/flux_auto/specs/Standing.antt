@@ -54,20 +54,20 @@ abbrev pub Starts : Definitions → Ty → List Ty → Plain → Type 0
 Starts defs t k z =
     (v : Plain) × (w : Plain) × (join v w ≡ z) × (v ≡ nil → ⊥) × Member defs v t × In defs w k
 
--- whether the empty forest is a member, where q tells it of the names
-abbrev pub empties : (ℕ → Bool) → Ty → Bool
-empties q empty = true
-empties q (atom k) = false
-empties q (element n t) = false
-empties q (any_element t) = false
-empties q (seq t u) = empties q t && empties q u
-empties q (alt t u) = empties q t || empties q u
-empties q (star t) = true
-empties q (named x) = q x
+-- whether a type is nullable, has the empty forest as a member, where q tells it of the names
+abbrev pub is_nullable : (ℕ → Bool) → Ty → Bool
+is_nullable q empty = true
+is_nullable q (atom k) = false
+is_nullable q (element n t) = false
+is_nullable q (any_element t) = false
+is_nullable q (seq t u) = is_nullable q t && is_nullable q u
+is_nullable q (alt t u) = is_nullable q t || is_nullable q u
+is_nullable q (star t) = true
+is_nullable q (named x) = q x
 
--- the truth values tell of each name whether the empty forest is a member
-abbrev pub TellsEmpty : Definitions → List Bool → Type 0
-TellsEmpty defs names = (x : ℕ) → (has names x ≡ true) ↔ Member defs nil (named x)
+-- the truth values tell of each name whether it is nullable
+abbrev pub TellsNullable : Definitions → List Bool → Type 0
+TellsNullable defs nullable = (x : ℕ) → (has nullable x ≡ true) ↔ Member defs nil (named x)
 
 -- the state stands for the type alone
 pub record IsContent (cs : List Cell) (s : ℕ) (t : Ty) : Type 0 where

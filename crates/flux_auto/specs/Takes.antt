@@ -13,9 +13,9 @@ pub record State : Type 0 where
   pub ends : Bool
   pub edges : List Edge
 
--- A profile is a truth value for each state, in order: whether the state takes a forest.
+-- The profile of a forest is the set of the states that take it: a truth value for each, in order.
 
--- the value of a state; states that aren't there take nothing
+-- whether a state is in it; states that aren't there take nothing
 abbrev pub has : List Bool → ℕ → Bool
 has p s = slice_index_or p s false
 

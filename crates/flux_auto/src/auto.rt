@@ -9,7 +9,7 @@ ghost use Rattle.flux_types.specs.Read.{ty_of};
 use crate::Edge;
 use crate::arcs::Arcs;
 use crate::make::{begin, extend_or_stay};
-use crate::names::empty_names;
+use crate::nullable::nullable_names;
 use crate::run::is_taken;
 use crate::table::Table;
 use crate::worklist::some_of;
@@ -50,8 +50,8 @@ pub(crate) struct Added {
 pub struct Auto {
     defs: Defs,
     other: Name,
-    // of each definition, whether the empty forest is a member
-    names: Vec<bool>,
+    // of each definition, whether its name is nullable
+    nullable: Vec<bool>,
     table: Table,
     added: Vec<Added>,
 }
@@ -67,7 +67,7 @@ impl Model for Auto {
 
     ghost view = { λ a. shown a.defs a.other a.table a.added.items };
 
-    ghost invariant = { λ a. IsRight a.defs a.names.items a.table a.added.items };
+    ghost invariant = { λ a. IsRight a.defs a.nullable.items a.table a.added.items };
 }
 
 impl Auto {
@@ -83,13 +83,13 @@ impl Auto {
         ensures none { IfOk result (λ auto. auto.types ≡ []) }
     {
         let defs = defs.copy(alloc)?;
-        let names = empty_names(alloc, &defs)?;
-        let table = begin(alloc, &defs, &names)?;
+        let nullable = nullable_names(alloc, &defs)?;
+        let table = begin(alloc, &defs, &nullable)?;
         let added = Vec::new(alloc);
         Ok(Auto {
             defs,
             other,
-            names,
+            nullable,
             table,
             added,
         })
@@ -110,7 +110,7 @@ impl Auto {
         let alloc = *self.added.allocator();
         let copied = copy_of(alloc, ty)?;
         self.added.try_reserve(1)?;
-        let state = extend_or_stay(alloc, &self.defs, &self.names, &mut self.table, ty)?;
+        let state = extend_or_stay(alloc, &self.defs, &self.nullable, &mut self.table, ty)?;
         let start = Start(self.added.len());
         if let Err(_) = self.added.push(Added { ty: copied, state }) {
             unreachable!()
@@ -120,13 +120,13 @@ impl Auto {
 
     /// Whether a forest is a member of a type that was added. First it sorts the edges by what they
     /// go by, which takes the time of going over them and the names up to the last label once. The
-    /// profile of a forest, a truth value for each state, tells which states take it. Each profile
-    /// is kept once and has a number. A tree in front of a forest takes the time of looking up what
-    /// its label, or kind of atom, and the numbers of the two profiles give. That is found when
-    /// they meet for the first time: by filling a profile, and going over the edges of the label
-    /// and of any label alone, or of the kind. The memory is that of the edges, of the profiles
-    /// that differ and of what was found, and for each element that is open a number and the places
-    /// of the trees before it that are still to come. It doesn't recurse.
+    /// profile of a forest is the set of the states that take it. Each profile is kept once and has
+    /// a number. A tree in front of a forest takes the time of looking up what its label, or kind
+    /// of atom, and the numbers of the two profiles give. That is found when they meet for the
+    /// first time: by filling a profile, and going over the edges of the label and of any label
+    /// alone, or of the kind. The memory is that of the edges, of the profiles that differ and of
+    /// what was found, and for each element that is open a number and the places of the trees
+    /// before it that are still to come. It doesn't recurse.
     pub fn member(&self, start: Start, view: View<'_>) -> Result<bool, AllocError>
         requires { start < length self.now.types }
         ensures { IfOk result (λ found. IfSome (slice_get self.now.types start)

@@ -5,7 +5,7 @@ ghost use Rattle.flux_auto.specs.Built.{Grows, IsEven, IsGround, IsOwn, OwnFrom,
 
 use crate::Edge;
 use crate::linear::linear;
-use crate::names::has_empty;
+use crate::nullable::is_nullable;
 use crate::table::{Table, set_row};
 use flux_types::{Defs, copy_of};
 use std::alloc::{AllocError, Global};
@@ -14,18 +14,18 @@ use std::alloc::{AllocError, Global};
 fn fill(
     alloc: Global,
     defs: &Defs,
-    names: &[bool],
+    nullable: &[bool],
     table: &mut Table,
     state: u64,
 ) -> Result<(), AllocError>
-    requires ground { IsGround defs.now names.now table.old }
+    requires ground { IsGround defs.now nullable.now table.old }
     requires awaits { Awaits (length defs.now) table.old.cells.items state }
     ensures grows { Grows state table.old table.new }
     ensures ok { OnOk result (Filled defs.now table.old table.new state) }
 {
     let head = copy_of(alloc, &table.cells[state as usize].head)?;
-    let edges = linear(alloc, defs, names, table, &head, 0)?;
-    set_row(table, state, has_empty(names, &head), edges);
+    let edges = linear(alloc, defs, nullable, table, &head, 0)?;
+    set_row(table, state, is_nullable(nullable, &head), edges);
     Ok(())
 }
 
@@ -33,11 +33,11 @@ fn fill(
 fn fill_all(
     alloc: Global,
     defs: &Defs,
-    names: &[bool],
+    nullable: &[bool],
     table: &mut Table,
     from: u64,
 ) -> Result<(), AllocError>
-    requires ground { IsGround defs.now names.now table.old }
+    requires ground { IsGround defs.now nullable.now table.old }
     requires begun { 1 ≤ from }
     requires there { from ≤ length table.old.cells.items }
     requires fresh { FreshFrom (length defs.now) from table.old.cells.items }
@@ -48,7 +48,7 @@ fn fill_all(
 {
     let end = table.cells.len() as u64;
     for state in from..end {
-        fill(alloc, defs, names, table, state)?;
+        fill(alloc, defs, nullable, table, state)?;
     }
     Ok(())
 }
@@ -61,7 +61,7 @@ fn joined(mut edges: Vec<Edge>, more: &[Edge]) -> Result<Vec<Edge>, AllocError>
     Ok(edges)
 }
 
-// Adds the edges of the tail, where the type of the state may be empty.
+// Adds the edges of the tail, where the type of the state is nullable.
 fn close(alloc: Global, defs: &Defs, table: &mut Table, state: u64) -> Result<(), AllocError>
     requires even { IsEven table.old }
     requires here { state < length table.old.cells.items }
@@ -103,20 +103,20 @@ fn close_all(alloc: Global, defs: &Defs, table: &mut Table, from: u64) -> Result
 pub(crate) fn complete(
     alloc: Global,
     defs: &Defs,
-    names: &[bool],
+    nullable: &[bool],
     table: &mut Table,
     from: u64,
 ) -> Result<(), AllocError>
-    requires ground { IsGround defs.now names.now table.old }
+    requires ground { IsGround defs.now nullable.now table.old }
     requires begun { 1 ≤ from }
     requires there { from ≤ length table.old.cells.items }
     requires fresh { FreshFrom (length defs.now) from table.old.cells.items }
     requires older { ClosedBelow defs.now from table.old }
     ensures grows { Grows from table.old table.new }
-    ensures ok { OnOk result (IsComplete defs.now names.now table.new) }
+    ensures ok { OnOk result (IsComplete defs.now nullable.now table.new) }
     ensures labels { OnOk result (NoNewLabels defs.now table.old table.new) }
 {
-    fill_all(alloc, defs, names, table, from)?;
+    fill_all(alloc, defs, nullable, table, from)?;
     close_all(alloc, defs, table, from)?;
     Ok(())
 }

@@ -8,7 +8,7 @@ mod content;
 mod edge;
 mod linear;
 mod make;
-mod names;
+mod nullable;
 mod profiles;
 mod recipe;
 mod run;

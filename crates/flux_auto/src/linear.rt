@@ -8,7 +8,7 @@ ghost use Rattle.flux_auto.specs.Pending.{Opens, PutsSecond, FillsRow};
 
 use crate::Edge;
 use crate::content::{find, is_same};
-use crate::names::has_empty;
+use crate::nullable::is_nullable;
 use crate::table::{Table, put, set_row};
 use flux_types::{Defs, Ty, copy_of};
 use std::alloc::{AllocError, Global};
@@ -98,11 +98,11 @@ fn read<'t>(
     Ok(())
 }
 
-// Puts a state for the second part of a sequence, whose edges stay where the first part may be
-// empty. The first part is then read before that state.
+// Puts a state for the second part of a sequence, whose edges stay where the first part is
+// nullable. The first part is then read before that state.
 fn put_second<'t>(
     alloc: Global,
-    names: &[bool],
+    nullable: &[bool],
     table: &mut Table,
     work: &mut Work<'t>,
     pair: Pair<'t>,
@@ -111,7 +111,7 @@ fn put_second<'t>(
     requires within { pair.from ≤ length work.old.edges.items }
     ensures grows { Grows (length table.old.rows.items) table.old table.new }
     ensures ok { OnOk result
-        (PutsSecond names.now pair.entry table.old work.old table.new work.new) }
+        (PutsSecond nullable.now pair.entry table.old work.old table.new work.new) }
 {
     let Pair {
         left,
@@ -121,8 +121,8 @@ fn put_second<'t>(
     } = pair;
     let head = copy_of(alloc, right)?;
     let own = work.edges[from..].to_vec(alloc)?;
-    let state = put(table, head, next, has_empty(names, right), own)?;
-    if !has_empty(names, left) {
+    let state = put(table, head, next, is_nullable(nullable, right), own)?;
+    if !is_nullable(nullable, left) {
         work.edges.truncate(from);
     }
     work.tasks.push(Task::Read(left, state))?;
@@ -152,12 +152,12 @@ fn fill_row(
 pub(crate) fn linear(
     alloc: Global,
     defs: &Defs,
-    names: &[bool],
+    nullable: &[bool],
     table: &mut Table,
     ty: &Ty,
     next: u64,
 ) -> Result<Vec<Edge>, AllocError>
-    requires ground { IsGround defs.now names.now table.old }
+    requires ground { IsGround defs.now nullable.now table.old }
     requires ready { Ready (length defs.now) table.old.cells.items (ty_of ty.now) }
     requires labels { LabelsStand defs.now table.old.cells.items (ty_of ty.now) }
     requires tail { next < length table.old.cells.items }
@@ -172,7 +172,7 @@ pub(crate) fn linear(
     while let Some(task) = work.tasks.pop() {
         match task {
             Task::Read(ty, next) => read(alloc, defs, table, &mut work, ty, next)?,
-            Task::First(pair) => put_second(alloc, names, table, &mut work, pair)?,
+            Task::First(pair) => put_second(alloc, nullable, table, &mut work, pair)?,
             Task::Row(state, from) => fill_row(alloc, table, &work.edges, state, from)?,
         }
     }

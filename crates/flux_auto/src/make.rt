@@ -2,7 +2,7 @@
 ghost use Rattle.std.specs.Prelude.{◌≡◌, ◌<◌, ◌≤◌, length, take, IfOk, OnOk, OnErr};
 ghost use Rattle.flux_schema.specs.Definitions.{IsKnown};
 ghost use Rattle.flux_types.specs.Read.{ty_of};
-ghost use Rattle.flux_auto.specs.Standing.{TellsEmpty};
+ghost use Rattle.flux_auto.specs.Standing.{TellsNullable};
 ghost use Rattle.flux_auto.specs.Built.{Grows, IsBegun, IsComplete, LabelsOfBodies, LabelsMore, Extended};
 
 use crate::close::complete;
@@ -26,16 +26,16 @@ fn begun(alloc: Global) -> Result<Table, AllocError>
 }
 
 // A table with the states of the definitions.
-pub(crate) fn begin(alloc: Global, defs: &Defs, names: &[bool]) -> Result<Table, AllocError>
-    requires { TellsEmpty defs.now names.now }
-    ensures complete { IfOk result (IsComplete defs.now names.now) }
+pub(crate) fn begin(alloc: Global, defs: &Defs, nullable: &[bool]) -> Result<Table, AllocError>
+    requires { TellsNullable defs.now nullable.now }
+    ensures complete { IfOk result (IsComplete defs.now nullable.now) }
     ensures labels { IfOk result (LabelsOfBodies defs.now) }
 {
     let mut table = begun(alloc)?;
     for index in 0..defs.len() {
         register(alloc, &mut table, defs.unfold(index))?;
     }
-    complete(alloc, defs, names, &mut table, 1)?;
+    complete(alloc, defs, nullable, &mut table, 1)?;
     Ok(table)
 }
 
@@ -43,20 +43,20 @@ pub(crate) fn begin(alloc: Global, defs: &Defs, names: &[bool]) -> Result<Table,
 fn extend(
     alloc: Global,
     defs: &Defs,
-    names: &[bool],
+    nullable: &[bool],
     table: &mut Table,
     ty: &Ty,
 ) -> Result<u64, AllocError>
-    requires complete { IsComplete defs.now names.now table.old }
+    requires complete { IsComplete defs.now nullable.now table.old }
     requires known { IsKnown defs.now (ty_of ty.now) }
     ensures grows { Grows (length table.old.rows.items) table.old table.new }
-    ensures ok { IfOk result (λ s. Extended defs.now names.now table.new (ty_of ty.now) s) }
+    ensures ok { IfOk result (λ s. Extended defs.now nullable.now table.new (ty_of ty.now) s) }
     ensures labels { OnOk result (LabelsMore defs.now table.old table.new (ty_of ty.now)) }
 {
     let from = table.cells.len() as u64;
     register(alloc, table, ty)?;
     let state = put_content(alloc, table, ty)?;
-    complete(alloc, defs, names, table, from)?;
+    complete(alloc, defs, nullable, table, from)?;
     Ok(state)
 }
 
@@ -64,20 +64,20 @@ fn extend(
 pub(crate) fn extend_or_stay(
     alloc: Global,
     defs: &Defs,
-    names: &[bool],
+    nullable: &[bool],
     table: &mut Table,
     ty: &Ty,
 ) -> Result<u64, AllocError>
-    requires complete { IsComplete defs.now names.now table.old }
+    requires complete { IsComplete defs.now nullable.now table.old }
     requires known { IsKnown defs.now (ty_of ty.now) }
     ensures grows { OnOk result (Grows (length table.old.rows.items) table.old table.new) }
-    ensures ok { IfOk result (λ s. Extended defs.now names.now table.new (ty_of ty.now) s) }
+    ensures ok { IfOk result (λ s. Extended defs.now nullable.now table.new (ty_of ty.now) s) }
     ensures labels { OnOk result (LabelsMore defs.now table.old table.new (ty_of ty.now)) }
     ensures cells { OnErr result (table.new.cells.items ≡ table.old.cells.items) }
     ensures rows { OnErr result (table.new.rows.items ≡ table.old.rows.items) }
 {
     let before = table.cells.len();
-    let state = extend(alloc, defs, names, table, ty);
+    let state = extend(alloc, defs, nullable, table, ty);
     if state.is_err() {
         table.cells.truncate(before);
         table.rows.truncate(before);

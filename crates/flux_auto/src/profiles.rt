@@ -1,4 +1,5 @@
-// The profiles of forests, each kept once: a profile's number stands for it.
+// Profiles, each kept once: a profile's number stands for it. The profile of a forest is the set of
+// the states that take it.
 ghost use Rattle.std.specs.Prelude.{◌≡◌, ◌<◌, length, map, Contains, IfOk, IfSome, OnOk};
 ghost use Rattle.flux_auto.specs.Arcs.{IsIndex};
 ghost use Rattle.flux_auto.specs.Built.{state_of};

@@ -1,4 +1,4 @@
-// Which states take a forest, from its first tree and the states that take its parts.
+// The profile of a forest, from its first tree and the profiles of its parts.
 ghost use Rattle.std.specs.Prelude.{◌≡◌, IfOk, map, set, true};
 ghost use Rattle.flux_auto.specs.Takes.{profile_nil, profile_element, profile_atom, has};
 ghost use Rattle.flux_auto.specs.Arcs.{IsIndex, mark_by_arc, mark_by_arcs, mark_by_leap};

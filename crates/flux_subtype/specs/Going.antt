@@ -33,7 +33,7 @@ Goes a s nil r = ⊥
 Goes a s (elem _ n v w) r = (c : ℕ) × HasElement a s n c r × (takes a c v ≡ true)
 Goes a s (leaf _ x w) r = HasEdge a s (Atom (kind_of x) r)
 
--- the truth values are the profile of the forest: true at just the states that take it
+-- the set is the profile of the forest: it has just the states that take it
 abbrev pub IsProfile : List State → List Bool → Plain → Type 0
 IsProfile a p v = (s : ℕ) → (has p s ≡ true) ↔ (takes a s v ≡ true)
 

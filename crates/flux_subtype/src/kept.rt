@@ -1,4 +1,4 @@
-// The profiles that are kept.
+// The profiles that are kept. The profile of a forest is the set of the states that take it.
 ghost use Rattle.std.specs.Prelude.{◌≡◌, IfOk, IfSome, IfNone};
 ghost use Rattle.flux_subtype.specs.Kept.{Keeps, IsKept, IsFresh, recipes};
 

@@ -1,4 +1,4 @@
-// Inclusion of types by profiles of forests.
+// Inclusion of types by the profiles of forests.
 ghost use Rattle.std.specs.Prelude.{◌≡◌};
 ghost use Rattle.flux_schema.specs.Labels.{BodiesLack};
 
@@ -9,11 +9,11 @@ use flux_types::{Decider, Defs, Ty, Verdict};
 use std::alloc::{AllocError, Global};
 use std::marker::Model;
 
-/// Decides inclusion by an automaton of both types: it finds the sets of states that forests can
-/// have, until one has the left type's state and lacks the right one's, or none is new. Types that
-/// have one state, as equal ones do, take no search. It remembers nothing. The time may be
-/// exponential in the sizes of the types, and the forest that is answered may be exponentially
-/// large.
+/// Decides inclusion by an automaton of both types: it finds the profiles that forests have, until
+/// one has the left type's state and lacks the right one's, or none is new. The profile of a forest
+/// is the set of the states that take it. Types that have one state, as equal ones do, take no
+/// search. It remembers nothing. The time may be exponential in the sizes of the types, and the
+/// forest that is answered may be exponentially large.
 #[derive(Drop)]
 pub struct Profiles<'d> {
     defs: &'d Defs,

@@ -11,7 +11,7 @@ close_all-requires-clause-older c = closed_carried c.args.defs.now c.args.from c
 
 pub returns-clause-ok : goal.returns-clause-ok
 returns-clause-ok c = record {
-  ground = ground_on c.args.defs.now c.args.names.now c.args.from c.args.table.now c.close_all.new.table c.requires.ground
+  ground = ground_on c.args.defs.now c.args.nullable.now c.args.from c.args.table.now c.close_all.new.table c.requires.ground
       (grows_by c.args.from c.args.from c.args.table.now c.fill_all.new.table c.close_all.new.table (omega arith) c.in_ok-fill_all.ensures.grows c.in_ok-close_all.ensures.grows)
       (omega (arith, c.requires.begun, c.requires.there)) c.in_ok-close_all.ensures.even;
   closed = c.in_ok-close_all.ensures.closed;

@@ -25,7 +25,7 @@ set_row-requires c = omega (arith, c.in_ok-edges.ensures.grows.longer, c.require
 
 pub returns-clause-grows : goal.returns-clause-grows
 returns-clause-grows c =
-    grows_set c.args.state c.args.state c.args.table.now c.linear.new.table c.set_row.new.table c.has_empty.result c.in_ok-edges.edges.items (omega arith)
+    grows_set c.args.state c.args.state c.args.table.now c.linear.new.table c.set_row.new.table c.is_nullable.result c.in_ok-edges.edges.items (omega arith)
     (grows_less (length c.args.table.now.rows.items) c.args.state c.args.table.now c.linear.new.table (omega (arith, c.requires.ground.even, awaits_below c.args.defs.now _ c.args.state c.args.table.now.cells.items c.requires.awaits)) c.in_ok-edges.ensures.grows) c.set_row.ensures
 
 pub returns-clause-ok : goal.returns-clause-ok
@@ -33,6 +33,6 @@ returns-clause-ok c =
     let defs = c.args.defs.now in
     let a = c.args.table.now in
     let head = ty_of c.in_ok-head.head in
-    filled_by defs a c.linear.new.table c.set_row.new.table c.args.state c.has_empty.result c.in_ok-edges.edges.items c.in_ok-edges.edges.items c.requires.awaits c.requires.ground.even head
+    filled_by defs a c.linear.new.table c.set_row.new.table c.args.state c.is_nullable.result c.in_ok-edges.edges.items c.in_ok-edges.edges.items c.requires.awaits c.requires.ground.even head
     (awaits_head defs _ c.args.state a.cells.items c.requires.awaits c.index.result.now c.in_ok-head.head c.index.ensures c.in_ok-head.ensures)
-    c.in_ok-edges.ensures.grows c.in_ok-edges.ensures.ok c.set_row.ensures refl (null_iff defs c.args.names.now c.requires.ground.tells c.has_empty.result head c.has_empty.ensures)
+    c.in_ok-edges.ensures.grows c.in_ok-edges.ensures.ok c.set_row.ensures refl (null_iff defs c.args.nullable.now c.requires.ground.tells c.is_nullable.result head c.is_nullable.ensures)

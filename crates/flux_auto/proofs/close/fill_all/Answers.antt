@@ -6,7 +6,7 @@ pub loop-state-init : goal.loop-state-init
 loop-state-init c = fills_begins c.args.defs.now c.args.from c.len-end.result c.args.table.now c.requires.ground.even (c.len-end.ensures ∙ c.args.table.now.cells.ok.0) (omega (arith, c.requires.there, c.len-end.ensures, c.args.table.now.cells.ok.0))
 
 pub fill-requires-clause-ground : goal.fill-requires-clause-ground
-fill-requires-clause-ground c = fills_ground c.args.defs.now c.args.names.now c.args.from c.len-end.result c.loop-state.state c.args.table.now c.loop-state.table c.requires.ground c.loop-state.invariant (omega (arith, c.requires.begun, c.requires.there))
+fill-requires-clause-ground c = fills_ground c.args.defs.now c.args.nullable.now c.args.from c.len-end.result c.loop-state.state c.args.table.now c.loop-state.table c.requires.ground c.loop-state.invariant (omega (arith, c.requires.begun, c.requires.there))
 
 pub fill-requires-clause-awaits : goal.fill-requires-clause-awaits
 fill-requires-clause-awaits c =

@@ -5,7 +5,7 @@ use Rattle.flux_auto.proofs.Tasks.{Runs}
 use Rattle.flux_auto.proofs.linear.linear.Given as goal
 
 abbrev pub invariant-loop-task : goal.invariant-loop-task
-invariant-loop-task l = Runs l.defs l.names l.fn.table (ty_of l.fn.ty) l.fn.next l.table l.work.tasks.items l.work.edges.items
+invariant-loop-task l = Runs l.defs l.nullable l.fn.table (ty_of l.fn.ty) l.fn.next l.table l.work.tasks.items l.work.edges.items
 
 abbrev pub decreases-loop-task : goal.decreases-loop-task
 decreases-loop-task l = all_effort (effort_of l.defs) l.work.tasks.items

@@ -14,7 +14,7 @@ loop-index-preserved c =
 
 pub complete-requires-clause-ground : goal.complete-requires-clause-ground
 complete-requires-clause-ground c =
-    begins_ground c.args.defs.now c.args.names.now c.loop-index.index c.in_ok-table.table c.loop-index.table c.requires c.in_ok-table.ensures c.loop-index.invariant (omega (arith, c.len-index-end.ensures.count, c.loop-index-test.false))
+    begins_ground c.args.defs.now c.args.nullable.now c.loop-index.index c.in_ok-table.table c.loop-index.table c.requires c.in_ok-table.ensures c.loop-index.invariant (omega (arith, c.len-index-end.ensures.count, c.loop-index-test.false))
 
 pub complete-requires-clause-older : goal.complete-requires-clause-older
 complete-requires-clause-older c = begins_closed c.args.defs.now c.loop-index.index c.in_ok-table.table c.loop-index.table c.in_ok-table.ensures c.loop-index.invariant

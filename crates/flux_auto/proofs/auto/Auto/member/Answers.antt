@@ -25,5 +25,5 @@ returns c =
     let is = slice_get_read added _ c.args.start c.index.result.now refl within (c.index.ensures ∙ ap (λ (i : ℕ). get_or added i c.index.result.now) c.start.view_is) in
     IfOk-implies (λ b. b ≡ takes (map state_of c.as_slice-rows.result.now) c.index.result.now.state v) (λ b. IfSome (slice_get c.args.self.now.types c.args.start) (λ t. IsTrue b ↔ Member c.args.self.now.definitions v t)) (λ b e.
     subst (λ (a : Automaton). IfSome (slice_get a.types c.args.start) (λ t. IsTrue b ↔ Member a.definitions v t)) c.self.view_is
-    (member_shown c.self.inside.defs c.self.inside.names.items c.self.inside.table added c.args.start c.index.result.now b v c.self.invariant is (e ∙ ap (λ (rows : List Row). takes (map state_of rows) c.index.result.now.state v) c.as_slice-rows.ensures.value)))
+    (member_shown c.self.inside.defs c.self.inside.nullable.items c.self.inside.table added c.args.start c.index.result.now b v c.self.invariant is (e ∙ ap (λ (rows : List Row). takes (map state_of rows) c.index.result.now.state v) c.as_slice-rows.ensures.value)))
     c.is_taken.result c.is_taken.ensures

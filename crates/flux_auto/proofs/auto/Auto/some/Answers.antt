@@ -18,6 +18,6 @@ returns c =
     let is = slice_get_read added _ c.args.start c.index.result.now refl within (c.index.ensures ∙ ap (λ (i : ℕ). get_or added i c.index.result.now) c.start.view_is) in
     IfOk-weaker c.some_of.result _ _
     (λ found h. subst (λ (a : Automaton). IfSome (slice_get a.types c.args.start) (λ t. IsSomeMember a t found)) c.self.view_is
-    (some_shown c.self.inside.defs c.self.inside.other c.self.inside.names.items c.self.inside.table added c.args.start c.index.result.now found c.self.invariant is
+    (some_shown c.self.inside.defs c.self.inside.other c.self.inside.nullable.items c.self.inside.table added c.args.start c.index.result.now found c.self.invariant is
     (subst (λ (rows : List Row). IsTakenBy (map state_of rows) c.self.inside.other c.index.result.now.state found) c.as_slice-rows.ensures.value h)))
     c.some_of.ensures

@@ -13,4 +13,4 @@ returns-clause-members c =
     let within : c.args.start < length added = omega (arith, c.requires, ap (λ (a : Automaton). length a.types) c.self.view_is, length-map (λ (d : Added). ty_of d.ty) added) in
     let is = slice_get_read added _ c.args.start c.index.result.now refl within (c.index.ensures ∙ ap (λ (i : ℕ). get_or added i c.index.result.now) c.start.view_is) in
     subst (λ (a : Automaton). IfSome (slice_get a.types c.args.start) (TakesMembers a c.index.result.now.state)) c.self.view_is
-    (members_shown c.self.inside.defs c.self.inside.other c.self.inside.names.items c.self.inside.table added c.args.start c.index.result.now c.self.invariant is)
+    (members_shown c.self.inside.defs c.self.inside.other c.self.inside.nullable.items c.self.inside.table added c.args.start c.index.result.now c.self.invariant is)

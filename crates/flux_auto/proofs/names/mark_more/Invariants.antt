@@ -1,5 +1,0 @@
-use Rattle.flux_auto.proofs.Marking.{Marking}
-use Rattle.flux_auto.proofs.names.mark_more.Given as goal
-
-abbrev pub invariant-loop-index : goal.invariant-loop-index
-invariant-loop-index l = Marking l.defs l.fn.names l.names l.index l.more
