@@ -9,7 +9,7 @@ use Rattle.flux_trees.specs.Hedge.{Plain}
 use Rattle.flux_trees.specs.Each.{EachLabel}
 use Rattle.flux_doctext.specs.Text.{text, name_text, NamesLabel}
 use Rattle.flux_doctext.proofs.Alike.{Alike, alike_nil, alike_elem, alike_leaf, alike_join, alike_text}
-use Rattle.flux_doctext.proofs.TextLaws.{NamesLabel-found}
+use Rattle.flux_doctext.proofs.TextLaws.{NamesLabel-found, NamesLabel-label}
 use Rattle.flux_doctext.specs.Spells.{Spells, IsViable}
 use Rattle.flux_doctext.specs.Documents.{IsNoDocument}
 use Rattle.flux_doctext.proofs.LabelLaws.{spelled_over}
@@ -26,14 +26,7 @@ use Rattle.flux_top.specs.declared.status.Status.{Status}
 use Rattle.flux_top.proofs.Pruned.{pruned_element, pruned, pruned_derives}
 use Rattle.flux_top.proofs.Answering.{no_form, script_one, document_one, asks_path, faulty_asks}
 
--- the text of a label is one, and only a label of the table has such a text
-label_text : (names : List (List ℕ)) (a : ℕ) → NamesLabel names a → IsLabel (name_text names a)
-label_text names a label = by (slice_get names a) label
-  where
-    by : (found : Option (List ℕ)) → IsSomeAnd found IsLabel → IsLabel (unwrap_or found [])
-    by None is = absurd is
-    by (Some t) is = is
-
+-- only a label of the table has the text of a label
 label_named : (names : List (List ℕ)) (a : ℕ) → IsLabel (name_text names a) → NamesLabel names a
 label_named names a label = by (slice_get names a) label
   where
@@ -63,7 +56,7 @@ path_alike names others (n ∷ path) (m ∷ other) e =
 label_one : (names others : List (List ℕ)) (a n b m : ℕ) → IsTable names → NamesLabel names a → name_text names a ≡ name_text others b → name_text names n ≡ name_text others m → b ≡ m → a ≡ n
 label_one names others a n b m table is label same e =
     let texts : name_text names a ≡ name_text names n = label ∙ ap (name_text others) e ∙ sym same in
-    let other = label_named names n (subst IsLabel texts (label_text names a is)) in
+    let other = label_named names n (subst IsLabel texts (NamesLabel-label names a is)) in
     table.differ a n (name_text names a) (NamesLabel-found names a is) (NamesLabel-found names n other ∙ ap Some (sym texts))
 
 module _ (names others : List (List ℕ)) (table : IsTable names) (other_table : IsTable others) where
