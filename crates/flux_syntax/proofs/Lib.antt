@@ -1,6 +1,6 @@
 mod KnownWords
 mod OneToken
-pub mod SoFar
+mod SoFar
 pub mod Standing
 mod Leads
 mod Chosen

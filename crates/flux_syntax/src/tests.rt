@@ -179,6 +179,48 @@ fn types(rt: HostRuntime) -> Result<(), Fail> {
     Ok(())
 }
 
+// Types that inclusion is asked of, and a query of an element.
+#[test]
+fn types_that_are_compared(rt: HostRuntime) -> Result<(), Fail> {
+    let alloc = rt.alloc();
+    for (kind, text, wanted) in [
+        (
+            Kind::Type,
+            "a[]*,a[]*",
+            "Seq([Marked(Elem(n0, None, 0-3), [Mark Star, 0-4], 0-4), \
+             Marked(Elem(n0, None, 5-8), [Mark Star, 5-9], 5-9)], 0-9)",
+        ),
+        (
+            Kind::Type,
+            "a[b[]|c[]]",
+            "Elem(n0, Some(Alt([Elem(n1, None, 2-5), Elem(n2, None, 6-9)], 2-9)), 0-10)",
+        ),
+        (
+            Kind::Type,
+            "a[b[]]|a[c[]]",
+            "Alt([Elem(n0, Some(Elem(n1, None, 2-5)), 0-6), \
+             Elem(n0, Some(Elem(n2, None, 9-12)), 7-13)], 0-13)",
+        ),
+        (
+            Kind::Type,
+            "a[(b[]|c[])*]",
+            "Elem(n0, Some(Marked(Group(Some(Alt([Elem(n1, None, 3-6), \
+             Elem(n2, None, 7-10)], 3-10)), 2-11), [Mark Star, 2-12], 2-12)), 0-13)",
+        ),
+        (
+            Kind::Type,
+            "a[b[]*]|a[c[]*]",
+            "Alt([Elem(n0, Some(Marked(Elem(n1, None, 2-5), [Mark Star, 2-6], 2-6)), 0-7), \
+             Elem(n0, Some(Marked(Elem(n2, None, 10-13), [Mark Star, 10-14], 10-14)), 8-15)], 0-15)",
+        ),
+        (Kind::Query, "b[$x]", "Elem(n0, Some(Var(n1, 2-4)), 0-5)"),
+    ] {
+        let told = told(&rt, alloc, kind, text)?;
+        assert_eq!(rt; told.as_str(), wanted, "{text}");
+    }
+    Ok(())
+}
+
 #[test]
 fn queries(rt: HostRuntime) -> Result<(), Fail> {
     let alloc = rt.alloc();
@@ -535,7 +577,8 @@ fn scripts(rt: HostRuntime) -> Result<(), Fail> {
         (
             "PROCEDURE 'IF'($x:A*,$y:()) : A => A {SKIP} INPUT A DO SKIP",
             "Script types: [], procs: [ProcDef name: n0, at: 10-14, \
-             params: [ParamDef var: n1, at: 15-17, ty: Marked(Named(n2, 18-19), [Mark Star, 18-20], 18-20), \
+             params: [ParamDef var: n1, at: 15-17, \
+             ty: Marked(Named(n2, 18-19), [Mark Star, 18-20], 18-20), \
              ParamDef var: n3, at: 21-23, ty: Group(None, 24-26)], \
              focus: Named(n2, 30-31), result: Named(n2, 35-36), body: [Skip(38-42)]], \
              input: Named(n2, 50-51), output: None, body: [Skip(55-59)]",

@@ -286,14 +286,14 @@ impl<'a> Reader<'a> {
         depth: u32,
         word: Span,
         name: Name,
-        alone: TypeText,
+        bare: TypeText,
     ) -> Result<TypeText, Fault>
         requires { depth ≤ LIMIT }
-        ensures parses { Parses (labelled depth word name alone) (at self.old) (at self.new) result }
+        ensures parses { Parses (labelled depth word name bare) (at self.old) (at self.new) result }
         ensures shorter { length self.new.left.now ≤ length self.old.left.now }
     {
         if !self.is_at(Sign::OpenSquare) {
-            return Ok(alone);
+            return Ok(bare);
         }
         self.advance();
         let inside = self.content(depth)?;

@@ -101,19 +101,19 @@ group-returns-clause-parses t c =
 
 pub labelled-returns-then-not-is_at-clause-parses : goal.labelled-returns-then-not-is_at-clause-parses
 labelled-returns-then-not-is_at-clause-parses t c =
-    gives (into (here (call (labelled c.args.depth c.args.word c.args.name c.args.alone)) (at c.args.self.now)) tt (alone_here c.args.depth c.args.word c.args.name c.args.alone (head (at c.args.self.now)) (not_here c.is_at.ensures.here c.if-not-is_at.true)))
+    gives (into (here (call (labelled c.args.depth c.args.word c.args.name c.args.bare)) (at c.args.self.now)) tt (alone_here c.args.depth c.args.word c.args.name c.args.bare (head (at c.args.self.now)) (not_here c.is_at.ensures.here c.if-not-is_at.true)))
 
 pub labelled-returns-in_err-inside-clause-parses : goal.labelled-returns-in_err-inside-clause-parses
 labelled-returns-in_err-inside-clause-parses t c =
-    part_stops (at c.content.new.self) c.from_residual.result c.in_err-inside.field-0.0 (took (into_at (here (call (labelled c.args.depth c.args.word c.args.name c.args.alone)) (at c.args.self.now)) tt (is_here c.is_at.ensures.here c.if-not-is_at.false) (λ k. refl)) (c.advance.ensures.took (Sign sign.OpenSquare) (is_here c.is_at.ensures.here c.if-not-is_at.false))) (err_from_is_err_and _ c.from_residual.ensures.1) c.in_err-inside.ensures.parses
+    part_stops (at c.content.new.self) c.from_residual.result c.in_err-inside.field-0.0 (took (into_at (here (call (labelled c.args.depth c.args.word c.args.name c.args.bare)) (at c.args.self.now)) tt (is_here c.is_at.ensures.here c.if-not-is_at.false) (λ k. refl)) (c.advance.ensures.took (Sign sign.OpenSquare) (is_here c.is_at.ensures.here c.if-not-is_at.false))) (err_from_is_err_and _ c.from_residual.ensures.1) c.in_err-inside.ensures.parses
 
 pub labelled-returns-in_err-to-clause-parses : goal.labelled-returns-in_err-to-clause-parses
 labelled-returns-in_err-to-clause-parses t c =
-    piece_stops (at c.take.new.self) c.from_residual-in_err-to.result c.in_err-to.field-0.0 (given (took (into_at (here (call (labelled c.args.depth c.args.word c.args.name c.args.alone)) (at c.args.self.now)) tt (is_here c.is_at.ensures.here c.if-not-is_at.false) (λ k. refl)) (c.advance.ensures.took (Sign sign.OpenSquare) (is_here c.is_at.ensures.here c.if-not-is_at.false))) c.in_ok-inside.ensures.parses) (err_from_is_err_and _ c.from_residual-in_err-to.ensures.1) c.in_err-to.ensures.took
+    piece_stops (at c.take.new.self) c.from_residual-in_err-to.result c.in_err-to.field-0.0 (given (took (into_at (here (call (labelled c.args.depth c.args.word c.args.name c.args.bare)) (at c.args.self.now)) tt (is_here c.is_at.ensures.here c.if-not-is_at.false) (λ k. refl)) (c.advance.ensures.took (Sign sign.OpenSquare) (is_here c.is_at.ensures.here c.if-not-is_at.false))) c.in_ok-inside.ensures.parses) (err_from_is_err_and _ c.from_residual-in_err-to.ensures.1) c.in_err-to.ensures.took
 
 pub labelled-returns-clause-parses : goal.labelled-returns-clause-parses
 labelled-returns-clause-parses t c =
-    gives (took (given (took (into_at (here (call (labelled c.args.depth c.args.word c.args.name c.args.alone)) (at c.args.self.now)) tt (is_here c.is_at.ensures.here c.if-not-is_at.false) (λ k. refl)) (c.advance.ensures.took (Sign sign.OpenSquare) (is_here c.is_at.ensures.here c.if-not-is_at.false))) c.in_ok-inside.ensures.parses) c.in_ok-to.ensures.took)
+    gives (took (given (took (into_at (here (call (labelled c.args.depth c.args.word c.args.name c.args.bare)) (at c.args.self.now)) tt (is_here c.is_at.ensures.here c.if-not-is_at.false) (λ k. refl)) (c.advance.ensures.took (Sign sign.OpenSquare) (is_here c.is_at.ensures.here c.if-not-is_at.false))) c.in_ok-inside.ensures.parses) c.in_ok-to.ensures.took)
 
 pub named-returns-clause-parses : goal.named-returns-clause-parses
 named-returns-clause-parses t c =
