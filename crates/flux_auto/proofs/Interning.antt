@@ -1,15 +1,21 @@
 -- Profiles that are kept by numbers.
 use Rattle.std.proofs.Common.{◌≡◌, ℕ, ◌<◌, Bool, true, false, cond, List, [], ◌∷◌, Some, length, slice_get, get_or, map, All, refl, sym, ap, ap₂, subst, ◌∙◌, arith, rules}
 use Rattle.std.proofs.lemmas.List.Elements.{All-cons, All-head, All-tail}
-use Rattle.std.proofs.lemmas.Option.{slice_get-map, slice_get_within, get_or_from_slice_get}
-use Rattle.std.specs.Option.{option_map}
+use Rattle.std.proofs.lemmas.Option.{get_or_from_slice_get}
 use Rattle.indexmap.specs.IndexMap.{insert_entry}
 use Rattle.indexmap.specs.IndexSet.{insert_key}
-use Rattle.std.proofs.Math.Bool.{beq}
+use Rattle.flux_atom.specs.declared.atom.AtomKind.{AtomKind}
+use Rattle.flux_auto.specs.declared.arcs.Arcs.{Arcs}
+use Rattle.flux_auto.specs.declared.arcs.Leap.{Leap}
+use Rattle.flux_auto.specs.declared.table.Row.{Row}
 use Rattle.flux_auto.specs.declared.profiles.Turn.{Turn}
 use Rattle.flux_auto.specs.declared.profiles.Turn.TheVariants.{Atom, Elem}
 use Rattle.flux_auto.specs.contracts.profiles.TurnPartialEq.TheImpl.{eq-value}
 use Rattle.flux_auto.specs.Takes.{State, profile_atom, profile_element}
+use Rattle.flux_auto.specs.Arcs.{IsIndex, leaps_at, leaps_by, fired}
+use Rattle.flux_auto.specs.Built.{state_of}
+use Rattle.flux_auto.proofs.ArcLaws.{atom_fires, element_fires}
+use Rattle.flux_auto.proofs.Meaning.{length-map}
 use Rattle.flux_auto.specs.Profiles.{profile_at, turned, IsWithin, Gives, Keeps}
 
 -- equal turns are the same
@@ -19,14 +25,8 @@ same_turn (Atom k r) (Elem m d q) h = search rules
 same_turn (Elem l c r) (Atom j q) h = search rules
 same_turn (Elem l c r) (Elem m d q) h = search rules
 
--- a list that stands at a place of a list of vectors
-pub at_place : {V : Type 0} (items : V → List Bool) (vs : List V) (n : ℕ) (v : V) (p : List Bool)
-    → slice_get vs n ≡ Some v → items v ≡ p → profile_at (map items vs) n ≡ p
-at_place items vs n v p at e =
-    get_or_from_slice_get (map items vs) n (items v) [] (slice_get-map items vs n ∙ ap (option_map items) at) ∙ e
-
-pub at_within : {V : Type 0} (items : V → List Bool) (vs : List V) (n : ℕ) (v : V) → slice_get vs n ≡ Some v → n < length (map items vs)
-at_within items vs n v at = slice_get_within (map items vs) n (items v) (slice_get-map items vs n ∙ ap (option_map items) at)
+pub at_place : (ps : List (List Bool)) (n : ℕ) (p : List Bool) → slice_get ps n ≡ Some p → profile_at ps n ≡ p
+at_place ps n p at = get_or_from_slice_get ps n p [] at
 
 -- the first key that is put into a set
 pub first_key : {V : Type 0} (eq : V → V → Bool) (old new : List V) (v : V) → old ≡ [] → new ≡ insert_key eq old v → new ≡ v ∷ []
@@ -83,8 +83,14 @@ right_more states old new before between after turn n g stays all one e =
     let there = subst (λ (es : List (Turn × ℕ)). All P es) (sym stays) (all_keep states old new before g all) in
     subst (λ (es : List (Turn × ℕ)). All P es) (sym e) (All-insert_entry P eq-value.it same_turn between turn n there one)
 
-pub beq_tells : (x y : Bool) → (beq x y ≡ true → x ≡ y) × (x ≡ y → beq x y ≡ true)
-beq_tells true true = (λ _. refl, λ _. refl)
-beq_tells true false = (λ h. sym h, λ h. sym h)
-beq_tells false true = (λ h. h, λ h. h)
-beq_tells false false = (λ _. refl, λ _. refl)
+-- ---- the profile of a tree and what follows
+
+pub atom_turned : (rows : List Row) (a : Arcs) (ps : List (List Bool)) (turn : Turn) (k : AtomKind) (r : ℕ) (leaps : List Leap) (rest : List Bool) → IsIndex (map state_of rows) a → turn ≡ Atom k r → leaps ≡ leaps_at a k → rest ≡ profile_at ps r
+    → fired (length rows) leaps rest ≡ turned (map state_of rows) ps turn
+atom_turned rows a ps turn k r leaps rest index is e f =
+    ap₂ (λ n l. fired n l rest) (sym (length-map state_of rows)) e ∙ atom_fires (map state_of rows) a k rest index ∙ ap (profile_atom (map state_of rows) k) f ∙ ap (turned (map state_of rows) ps) (sym is)
+
+pub element_turned : (rows : List Row) (a : Arcs) (ps : List (List Bool)) (turn : Turn) (l c r : ℕ) (leaps : List Leap) (content rest : List Bool) → IsIndex (map state_of rows) a → turn ≡ Elem l c r → leaps ≡ leaps_by a l content → content ≡ profile_at ps c → rest ≡ profile_at ps r
+    → fired (length rows) leaps rest ≡ turned (map state_of rows) ps turn
+element_turned rows a ps turn l c r leaps content rest index is e f g =
+    ap₂ (λ n x. fired n x rest) (sym (length-map state_of rows)) e ∙ element_fires (map state_of rows) a l content rest index ∙ ap₂ (profile_element (map state_of rows) l) f g ∙ ap (turned (map state_of rows) ps) (sym is)

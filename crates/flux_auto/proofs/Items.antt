@@ -1,6 +1,8 @@
 -- Items of lists by their places.
-use Rattle.std.proofs.Common.{◌≡◌, ℕ, zero, suc, ◌<◌, List, [], ◌∷◌, ◌++◌, length, Some, slice_get, refl, ap, arith}
+use Rattle.std.proofs.Common.{◌≡◌, ◌⊎◌, ℕ, zero, suc, ◌<◌, List, [], ◌∷◌, ◌++◌, length, Some, slice_get, refl, ap, subst, ◌∙◌, inl, inr, arith}
 use Rattle.std.proofs.Math.ListN.{set}
+use Rattle.std.proofs.lemmas.Option.{slice_get_within}
+use Rattle.flux_auto.specs.Arcs.{Has}
 
 pub get-append : {A : Type 0} (xs ys : List A) (i : ℕ) → i < length xs → slice_get (xs ++ ys) i ≡ slice_get xs i
 get-append [] ys i h = absurd (omega (arith, h))
@@ -30,3 +32,38 @@ get-set_other (y ∷ xs) zero zero x ne = absurd (ne refl)
 get-set_other (y ∷ xs) zero (suc j) x ne = refl
 get-set_other (y ∷ xs) (suc i) zero x ne = refl
 get-set_other (y ∷ xs) (suc i) (suc j) x ne = get-set_other xs i j x (λ e. ne (ap suc e))
+
+-- an item of a list with one more is one of the list's, or the last
+pub get-push : {X : Type 0} (xs : List X) (x : X) (i : ℕ) (y : X) → slice_get (xs ++ x ∷ []) i ≡ Some y → ((i < length xs) × (slice_get xs i ≡ Some y)) ⊎ ((i ≡ length xs) × (x ≡ y))
+get-push [] x zero y e = inr (refl, cc)
+get-push [] x (suc i) y e = absurd cc
+get-push (z ∷ xs) x zero y e = inl (omega arith, e)
+get-push (z ∷ xs) x (suc i) y e = by (get-push xs x i y e)
+  where
+    by : ((i < length xs) × (slice_get xs i ≡ Some y)) ⊎ ((i ≡ length xs) × (x ≡ y)) → ((suc i < suc (length xs)) × (slice_get xs i ≡ Some y)) ⊎ ((suc i ≡ suc (length xs)) × (x ≡ y))
+    by (inl p) = inl ((let l = p.0 in omega (arith, l)), p.1)
+    by (inr p) = inr (ap suc p.0, p.1)
+
+pub has-append : {X : Type 0} (xs ys : List X) (x : X) → Has xs x → Has (xs ++ ys) x
+has-append xs ys x (k, e) = (k, get-append xs ys k (slice_get_within xs k x e) ∙ e)
+
+pub has-right : {X : Type 0} (xs ys : List X) (x : X) → Has ys x → Has (xs ++ ys) x
+has-right [] ys x h = h
+has-right (y ∷ xs) ys x h = let p = has-right xs ys x h in (suc p.0, p.1)
+
+pub has-split : {X : Type 0} (xs ys : List X) (x : X) → Has (xs ++ ys) x → Has xs x ⊎ Has ys x
+has-split [] ys x h = inr h
+has-split (y ∷ xs) ys x (zero, e) = inl (zero, e)
+has-split (y ∷ xs) ys x (suc k, e) = elim (has-split xs ys x (k, e)) [ inl p ↦ inl (suc p.0, p.1) | inr p ↦ inr p ]
+
+pub has-last : {X : Type 0} (xs : List X) (x : X) → Has (xs ++ x ∷ []) x
+has-last xs x = (length xs, get-end xs x [])
+
+pub has-push : {X : Type 0} (xs : List X) (x y : X) → Has (xs ++ x ∷ []) y → Has xs y ⊎ (x ≡ y)
+has-push xs x y (k, e) = elim (get-push xs x k y e) [ inl p ↦ inl (k, p.1) | inr p ↦ inr p.1 ]
+
+pub has-nil : {X : Type 0} (x : X) → Has [] x → ⊥
+has-nil x (k, e) = cc
+
+pub has-none : {X : Type 0} (xs : List X) (x : X) → xs ≡ [] → Has xs x → ⊥
+has-none xs x e h = has-nil x (subst (λ l. Has l x) e h)

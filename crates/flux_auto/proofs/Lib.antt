@@ -1,4 +1,5 @@
 pub mod Items
+pub mod SetLaws
 pub mod Lists
 pub mod Tables
 pub mod Growing

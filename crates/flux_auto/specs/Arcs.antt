@@ -1,17 +1,15 @@
 -- The edges of the states, by the trees that they go by.
-use Rattle.std.specs.Prelude.{◌≡◌, ℕ, zero, suc, List, [], ◌∷◌, ◌++◌, Bool, true, ◌&&◌, ◌==◌, if◌then◌else◌, map, set, Vec}
+use Rattle.std.specs.Prelude.{◌≡◌, ◌⊎◌, ℕ, zero, suc, List, [], ◌∷◌, ◌++◌, Bool, true, false, ◌==◌, if◌then◌else◌, map, set, replicate, Some, slice_get, Vec}
 use Rattle.std.specs.declared.alloc.Global.{Global}
 use Rattle.flux_atom.specs.declared.atom.AtomKind.{AtomKind}
 use Rattle.flux_atom.specs.declared.atom.AtomKind.TheVariants as kind
 use Rattle.flux_schema.specs.Tidy.{same_kind}
 use Rattle.flux_auto.specs.declared.edge.Edge.{Edge}
 use Rattle.flux_auto.specs.declared.edge.Edge.TheVariants.{Atom, Elem, AnyElem}
-use Rattle.flux_auto.specs.declared.table.Row.{Row}
 use Rattle.flux_auto.specs.declared.arcs.Arc.{Arc}
 use Rattle.flux_auto.specs.declared.arcs.Leap.{Leap}
 use Rattle.flux_auto.specs.declared.arcs.Arcs.{Arcs}
 use Rattle.flux_auto.specs.Takes.{State, has}
-use Rattle.flux_auto.specs.Built.{state_of}
 
 -- the edges that leave a state, each beside the state's number
 abbrev pub leaving : ℕ → List Edge → List (ℕ × Edge)
@@ -64,32 +62,60 @@ leaps_at a kind.Bool = a.truths.items
 leaps_at a kind.Text = a.texts.items
 leaps_at a kind.Int = a.numbers.items
 
+-- the list has the item, at some place
+abbrev pub Has : {X : Type 0} → List X → X → Type 0
+Has xs x = (k : ℕ) × (slice_get xs k ≡ Some x)
+
+-- the label of an edge by an element
+abbrev pub IsLabelAmong : List (ℕ × Edge) → ℕ → Type 0
+IsLabelAmong edges n = (s : ℕ) × (c : ℕ) × (r : ℕ) × Has edges (s, Elem n c r)
+
+-- a label is listed before its first edge is put at it
+abbrev pub Lists : List ℕ → List ℕ → ℕ → List Arc → Type 0
+Lists old new n arcs = ((arcs ≡ []) × (new ≡ old ++ n ∷ [])) ⊎ ((arcs ≡ [] → ⊥) × (new ≡ old))
+
+-- each label is listed that has edges
+abbrev pub AreListed : Arcs → Type 0
+AreListed a = (n : ℕ) → (arcs_at a.by_label.items n ≡ []) ⊎ Has a.labels.items n
+
 -- the edges were added, each at its label, at any label or at its kind, after those that were there
 pub record Adds (old new : Arcs) (edges : List (ℕ × Edge)) : Type 0 where
   pub arcs : (n : ℕ)
       → arcs_at new.by_label.items n ≡ arcs_at old.by_label.items n ++ arcs_of n edges
   pub any : new.any_label.items ≡ old.any_label.items ++ any_arcs_of edges
   pub leaps : (k : AtomKind) → leaps_at new k ≡ leaps_at old k ++ leaps_of k edges
+  pub listed : AreListed old → AreListed new
+  pub labels : (n : ℕ) → Has new.labels.items n → Has old.labels.items n ⊎ IsLabelAmong edges n
 
--- at each label, at any label and at each kind just the edges of the rows that go by it, in order
-pub record IsIndex (rows : List Row) (a : Arcs) : Type 0 where
-  pub arcs : (n : ℕ) → arcs_at a.by_label.items n ≡ arcs_of n (edges_from 0 (map state_of rows))
-  pub any : a.any_label.items ≡ any_arcs_of (edges_from 0 (map state_of rows))
-  pub leaps : (k : AtomKind) → leaps_at a k ≡ leaps_of k (edges_from 0 (map state_of rows))
+-- at each label, at any label and at each kind just the edges of the states that go by it, in order,
+-- and the labels of edges
+pub record IsIndex (states : List State) (a : Arcs) : Type 0 where
+  pub arcs : (n : ℕ) → arcs_at a.by_label.items n ≡ arcs_of n (edges_from 0 states)
+  pub any : a.any_label.items ≡ any_arcs_of (edges_from 0 states)
+  pub leaps : (k : AtomKind) → leaps_at a k ≡ leaps_of k (edges_from 0 states)
+  pub listed : AreListed a
+  pub labels : (n : ℕ) → Has a.labels.items n → IsLabelAmong (edges_from 0 states) n
 
--- the state that an arc leaves is marked where the arc's content and its next state are
-abbrev pub mark_by_arc : List Bool → List Bool → List Bool → Arc → List Bool
-mark_by_arc p q marks a = if has p a.content && has q a.next then set marks a.source true else marks
+-- the leaps along arcs whose content has the profile p
+abbrev pub leaps_along : List Bool → List Arc → List Leap
+leaps_along p [] = []
+leaps_along p (a ∷ arcs) =
+    (if has p a.content then record { source = a.source; next = a.next } ∷ [] else [])
+    ++ leaps_along p arcs
 
--- so it is with each arc, in order
-abbrev pub mark_by_arcs : List Bool → List Bool → List Bool → List Arc → List Bool
-mark_by_arcs p q marks [] = marks
-mark_by_arcs p q marks (a ∷ arcs) = mark_by_arcs p q (mark_by_arc p q marks a) arcs
+-- those of an element with the label n
+abbrev pub leaps_by : Arcs → ℕ → List Bool → List Leap
+leaps_by a n p = leaps_along p (arcs_at a.by_label.items n) ++ leaps_along p a.any_label.items
 
--- likewise with leaps
+-- the state that a leap leaves is marked where its next state takes what follows
 abbrev pub mark_by_leap : List Bool → List Bool → Leap → List Bool
 mark_by_leap q marks l = if has q l.next then set marks l.source true else marks
 
+-- so it is with each leap, in order
 abbrev pub mark_by_leaps : List Bool → List Bool → List Leap → List Bool
 mark_by_leaps q marks [] = marks
 mark_by_leaps q marks (l ∷ leaps) = mark_by_leaps q (mark_by_leap q marks l) leaps
+
+-- the states below n that a leap leaves so
+abbrev pub fired : ℕ → List Leap → List Bool → List Bool
+fired n leaps q = mark_by_leaps q (replicate n false) leaps

@@ -1,4 +1,5 @@
 pub mod Takes
+pub mod Set
 pub mod Automaton
 pub mod Standing
 pub mod Built

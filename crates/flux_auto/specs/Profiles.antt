@@ -1,5 +1,5 @@
 -- Profiles that are kept by numbers, and what a tree in front of a forest gives.
-use Rattle.std.specs.Prelude.{◌≡◌, ℕ, ◌<◌, ◌≤◌, Bool, List, [], length, map, slice_index_or, All}
+use Rattle.std.specs.Prelude.{◌≡◌, ℕ, ◌<◌, ◌≤◌, Bool, List, [], length, slice_index_or, All}
 use Rattle.flux_auto.specs.declared.profiles.Profiles.{Profiles}
 use Rattle.flux_auto.specs.declared.profiles.Turn.{Turn}
 use Rattle.flux_auto.specs.declared.profiles.Turn.TheVariants.{Atom, Elem}
@@ -7,7 +7,7 @@ use Rattle.flux_auto.specs.Takes.{State, profile_nil, profile_element, profile_a
 
 -- the profiles that are kept, each at its number
 abbrev pub profiles_of : Profiles → List (List Bool)
-profiles_of p = map (λ set. set.items) p.sets.keys
+profiles_of p = p.sets.keys
 
 -- the profile with the number
 abbrev pub profile_at : List (List Bool) → ℕ → List Bool

@@ -1,10 +1,10 @@
 // The edges of an automaton, by the trees that they go by.
-ghost use Rattle.std.specs.Prelude.{◌≡◌, ◌<◌, ◌∷◌, [], ℕ, length, IfOk, OnOk};
-ghost use Rattle.flux_auto.specs.Arcs.{leaving, arcs_at, leaps_at, Adds, IsIndex};
+ghost use Rattle.std.specs.Prelude.{◌≡◌, ◌<◌, ◌++◌, ◌∷◌, [], ℕ, length, IfOk, OnOk};
+ghost use Rattle.flux_auto.specs.Arcs.{leaving, arcs_at, leaps_at, leaps_along, leaps_by, Lists, Adds, IsIndex};
 ghost use Rattle.flux_auto.specs.declared.edge.Edge.TheVariants.{Atom, Elem, AnyElem};
 
 use crate::Edge;
-use crate::table::Row;
+use crate::set::Set;
 use flux_atom::{AtomKind, Name};
 use std::alloc::{AllocError, Global};
 
@@ -17,18 +17,19 @@ pub(crate) struct Arc {
     pub(crate) next: u64,
 }
 
-// An edge by an atom of a known kind: the state that it leaves, and that of the trees after it.
-#[derive(Clone, Copy)]
-pub(crate) struct Leap {
-    pub(crate) source: u64,
-    pub(crate) next: u64,
+/// An edge by a known tree: the state that it leaves, and that of the trees after it.
+#[derive(Clone, Copy, Debug, PartialEq, Eq, Hash)]
+pub struct Leap {
+    pub source: u64,
+    pub next: u64,
 }
 
-// The edges by elements, at the number of their label, those by elements of any label, and those by
-// atoms, of each kind.
+/// The edges of states: those by elements, at the number of their label, those by elements of any
+/// label, and those by atoms, of each kind.
 #[derive(Drop)]
-pub(crate) struct Arcs {
+pub struct Arcs {
     pub(crate) by_label: Vec<Vec<Arc>>,
+    pub(crate) labels: Vec<Name>,
     pub(crate) any_label: Vec<Arc>,
     pub(crate) texts: Vec<Leap>,
     pub(crate) truths: Vec<Leap>,
@@ -36,25 +37,39 @@ pub(crate) struct Arcs {
 }
 
 impl Arcs {
-    // The edges of the states that the rows are.
-    pub(crate) fn of(alloc: Global, rows: &[Row]) -> Result<Arcs, AllocError>
-        ensures { IfOk result (IsIndex rows.now) }
+    /// The edges of no states.
+    pub fn new(alloc: Global) -> Arcs
+        ensures { IsIndex [] result }
     {
-        let mut arcs = Arcs {
+        Arcs {
             by_label: Vec::new(alloc),
+            labels: Vec::new(alloc),
             any_label: Vec::new(alloc),
             texts: Vec::new(alloc),
             truths: Vec::new(alloc),
             numbers: Vec::new(alloc),
-        };
-        for source in 0..rows.len() {
-            add_all(&mut arcs, source as u64, rows[source].edges.as_slice())?;
         }
-        Ok(arcs)
+    }
+
+    /// Adds the edges of a state.
+    pub fn add_all(&mut self, source: u64, edges: &[Edge]) -> Result<(), AllocError>
+        ensures { OnOk result (Adds self.old self.new (leaving source edges.now)) }
+    {
+        for edge in edges {
+            add(self, source, edge)?;
+        }
+        Ok(())
+    }
+
+    /// The labels of the edges by elements with a label alone, each once.
+    pub fn labels(&self) -> &[Name]
+        ensures { result.now ≡ self.now.labels.items }
+    {
+        self.labels.as_slice()
     }
 
     // The edges by an element with a label alone.
-    pub(crate) fn for_label(&self, label: Name) -> &[Arc]
+    fn for_label(&self, label: Name) -> &[Arc]
         ensures { result.now ≡ arcs_at self.now.by_label.items label }
     {
         match self.by_label.get(label.number() as usize) {
@@ -63,8 +78,8 @@ impl Arcs {
         }
     }
 
-    // The edges by an atom of a kind.
-    pub(crate) fn for_kind(&self, kind: AtomKind) -> &[Leap]
+    /// The edges by an atom of a kind.
+    pub fn for_kind(&self, kind: AtomKind) -> &[Leap]
         ensures { result.now ≡ leaps_at self.now kind }
     {
         match kind {
@@ -73,6 +88,42 @@ impl Arcs {
             AtomKind::Int => self.numbers.as_slice(),
         }
     }
+
+    /// The edges by an element with a label whose content has a profile.
+    pub fn for_element(
+        &self,
+        alloc: Global,
+        label: Name,
+        content: &Set,
+    ) -> Result<Vec<Leap>, AllocError>
+        ensures { IfOk result (λ leaps. leaps.items ≡ leaps_by self.now label content.now) }
+    {
+        let mut leaps = Vec::new(alloc);
+        add_leaps(&mut leaps, self.for_label(label), content)?;
+        add_leaps(&mut leaps, self.any_label.as_slice(), content)?;
+        Ok(leaps)
+    }
+}
+
+// Adds the edges whose content has a profile.
+fn add_leaps(leaps: &mut Vec<Leap>, arcs: &[Arc], content: &Set) -> Result<(), AllocError>
+    ensures { OnOk result (leaps.new.items ≡ leaps.old.items ++ leaps_along content.now arcs.now) }
+{
+    for arc in arcs {
+        add_leap_along(leaps, arc, content)?;
+    }
+    Ok(())
+}
+
+fn add_leap_along(leaps: &mut Vec<Leap>, arc: &Arc, content: &Set) -> Result<(), AllocError>
+    ensures { OnOk result
+        (leaps.new.items ≡ leaps.old.items ++ leaps_along content.now (arc.now ∷ [])) }
+{
+    if content.has(arc.content) {
+        let (source, next) = (arc.source, arc.next);
+        leaps.push(Leap { source, next })?;
+    }
+    Ok(())
 }
 
 // Makes a place for a label.
@@ -87,12 +138,23 @@ fn make_place(by_label: &mut Vec<Vec<Arc>>, number: usize) -> Result<(), AllocEr
     Ok(())
 }
 
+// Lists a label, if it has no edges yet.
+fn list(labels: &mut Vec<Name>, label: Name, arcs: &[Arc]) -> Result<(), AllocError>
+    ensures { OnOk result (Lists labels.old.items labels.new.items label arcs.now) }
+{
+    if arcs.is_empty() {
+        labels.push(label)?;
+    }
+    Ok(())
+}
+
 fn add_arc(arcs: &mut Arcs, label: Name, arc: Arc) -> Result<(), AllocError>
     ensures { OnOk result
         (Adds arcs.old arcs.new ((arc.source, Elem label arc.content arc.next) ∷ [])) }
 {
     let number = label.number() as usize;
     make_place(&mut arcs.by_label, number)?;
+    list(&mut arcs.labels, label, arcs.by_label[number].as_slice())?;
     arcs.by_label[number].push(arc)?;
     Ok(())
 }
@@ -144,14 +206,4 @@ fn add(arcs: &mut Arcs, source: u64, edge: &Edge) -> Result<(), AllocError>
             add_any(arcs, arc)
         }
     }
-}
-
-// Adds all edges of a state.
-fn add_all(arcs: &mut Arcs, source: u64, edges: &[Edge]) -> Result<(), AllocError>
-    ensures { OnOk result (Adds arcs.old arcs.new (leaving source edges.now)) }
-{
-    for edge in edges {
-        add(arcs, source, edge)?;
-    }
-    Ok(())
 }

@@ -7,10 +7,10 @@ ghost use Rattle.flux_forest.specs.View.{forest_of};
 ghost use Rattle.flux_types.specs.Read.{ty_of};
 
 use crate::Edge;
-use crate::arcs::Arcs;
 use crate::make::{begin, extend_or_stay};
 use crate::nullable::nullable_names;
 use crate::run::is_taken;
+use crate::sets::arcs_of;
 use crate::table::Table;
 use crate::worklist::some_of;
 use flux_atom::Name;
@@ -134,7 +134,7 @@ impl Auto {
     {
         let alloc = *self.added.allocator();
         let rows = self.table.rows.as_slice();
-        let arcs = Arcs::of(alloc, rows)?;
+        let arcs = arcs_of(alloc, rows)?;
         is_taken(alloc, rows, &arcs, self.added[start.0].state, view)
     }
 

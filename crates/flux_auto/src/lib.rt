@@ -12,14 +12,18 @@ mod nullable;
 mod profiles;
 mod recipe;
 mod run;
+mod set;
 mod sets;
 mod table;
 mod witness;
 mod worklist;
 
+pub use arcs::{Arcs, Leap};
 pub use auto::{Auto, Start};
 pub use edge::Edge;
 pub use recipe::{Recipe, build};
+pub use set::Set;
+pub use sets::fired;
 
 #[cfg(test)]
 mod tests;

@@ -6,7 +6,8 @@ ghost use Rattle.flux_auto.specs.Built.{state_of};
 ghost use Rattle.flux_auto.specs.Profiles.{profiles_of, profile_at, turned, IsWithin, Gives, AreRight, Keeps};
 
 use crate::arcs::Arcs;
-use crate::sets::{set_of_atom, set_of_element, set_of_nil};
+use crate::set::Set;
+use crate::sets::{fired, set_of_nil};
 use crate::table::Row;
 use flux_atom::{AtomKind, Name};
 use indexmap::{IndexMap, IndexSet};
@@ -23,7 +24,7 @@ pub(crate) enum Turn {
 // The profiles, by their numbers, and the number that each tree gave that was put in front of one.
 #[derive(Drop)]
 pub(crate) struct Profiles {
-    pub(crate) sets: IndexSet<Vec<bool>>,
+    pub(crate) sets: IndexSet<Set>,
     pub(crate) turns: IndexMap<Turn, usize>,
 }
 
@@ -41,17 +42,17 @@ pub(crate) fn begin_profiles(alloc: Global, rows: &[Row]) -> Result<Profiles, Al
 }
 
 // The profile with a number.
-pub(crate) fn set_at(profiles: &Profiles, number: usize) -> &[bool]
+pub(crate) fn set_at(profiles: &Profiles, number: usize) -> &Set
     requires { number < length (profiles_of profiles.now) }
     ensures { result.now ≡ profile_at (profiles_of profiles.now) number }
 {
-    profiles.sets.as_slice()[number].as_slice()
+    &profiles.sets.as_slice()[number]
 }
 
 // The number of a profile, which is kept from now on.
-fn intern(profiles: &mut Profiles, set: Vec<bool>) -> Result<usize, AllocError>
+fn intern(profiles: &mut Profiles, set: Set) -> Result<usize, AllocError>
     ensures there { IfOk result (λ n. n < length (profiles_of profiles.new)) }
-    ensures place { IfOk result (λ n. profile_at (profiles_of profiles.new) n ≡ set.items) }
+    ensures place { IfOk result (λ n. profile_at (profiles_of profiles.new) n ≡ set) }
     ensures keeps { OnOk result (Keeps (profiles_of profiles.old) (profiles_of profiles.new)) }
     ensures turns { profiles.new.turns.entries ≡ profiles.old.turns.entries }
 {
@@ -65,17 +66,24 @@ fn set_after(
     arcs: &Arcs,
     profiles: &Profiles,
     turn: &Turn,
-) -> Result<Vec<bool>, AllocError>
-    requires index { IsIndex rows.now arcs.now }
+) -> Result<Set, AllocError>
+    requires index { IsIndex (map state_of rows.now) arcs.now }
     requires within { IsWithin (length (profiles_of profiles.now)) turn.now }
     ensures { IfOk result (λ set.
-        set.items ≡ turned (map state_of rows.now) (profiles_of profiles.now) turn.now) }
+        set ≡ turned (map state_of rows.now) (profiles_of profiles.now) turn.now) }
 {
     match turn {
-        Turn::Atom(kind, rest) => set_of_atom(alloc, rows, arcs, *kind, set_at(profiles, *rest)),
+        Turn::Atom(kind, rest) => {
+            fired(
+                alloc,
+                rows.len(),
+                arcs.for_kind(*kind),
+                set_at(profiles, *rest),
+            )
+        }
         Turn::Elem(label, content, rest) => {
-            let content = set_at(profiles, *content);
-            set_of_element(alloc, rows, arcs, *label, content, set_at(profiles, *rest))
+            let leaps = arcs.for_element(alloc, *label, set_at(profiles, *content))?;
+            fired(alloc, rows.len(), &leaps, set_at(profiles, *rest))
         }
     }
 }
@@ -95,7 +103,7 @@ fn find(
     profiles: &mut Profiles,
     turn: Turn,
 ) -> Result<usize, AllocError>
-    requires index { IsIndex rows.now arcs.now }
+    requires index { IsIndex (map state_of rows.now) arcs.now }
     requires within { IsWithin (length (profiles_of profiles.old)) turn }
     requires right { AreRight (map state_of rows.now) profiles.old }
     ensures keeps { OnOk result (Keeps (profiles_of profiles.old) (profiles_of profiles.new)) }
@@ -117,7 +125,7 @@ pub(crate) fn after(
     profiles: &mut Profiles,
     turn: Turn,
 ) -> Result<usize, AllocError>
-    requires index { IsIndex rows.now arcs.now }
+    requires index { IsIndex (map state_of rows.now) arcs.now }
     requires within { IsWithin (length (profiles_of profiles.old)) turn }
     requires right { AreRight (map state_of rows.now) profiles.old }
     ensures keeps { OnOk result (Keeps (profiles_of profiles.old) (profiles_of profiles.new)) }

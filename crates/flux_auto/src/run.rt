@@ -9,7 +9,6 @@ ghost use Rattle.flux_auto.specs.Profiles.{AreRight, profile_at, profiles_of};
 
 use crate::arcs::Arcs;
 use crate::profiles::{NOTHING, Profiles, Turn, after, begin_profiles, set_at};
-use crate::sets::takes;
 use crate::table::Row;
 use flux_atom::{Name, kind};
 use flux_forest::{First, View};
@@ -47,7 +46,7 @@ fn number_of(
     profiles: &mut Profiles,
     run: View<'_>,
 ) -> Result<usize, AllocError>
-    requires index { IsIndex rows.now arcs.now }
+    requires index { IsIndex (map state_of rows.now) arcs.now }
     requires right { AreRight (map state_of rows.now) profiles.old }
     ensures there { IfOk result (λ n. n < length (profiles_of profiles.new)) }
     ensures profile { IfOk result (λ n.
@@ -92,11 +91,11 @@ pub(crate) fn is_taken(
     state: u64,
     run: View<'_>,
 ) -> Result<bool, AllocError>
-    requires { IsIndex rows.now arcs.now }
+    requires { IsIndex (map state_of rows.now) arcs.now }
     ensures { IfOk result
         (λ taken. taken ≡ takes (map state_of rows.now) state (forest_of run.entry)) }
 {
     let mut profiles = begin_profiles(alloc, rows)?;
     let number = number_of(alloc, rows, arcs, &mut profiles, run)?;
-    Ok(takes(set_at(&profiles, number), state))
+    Ok(set_at(&profiles, number).has(state))
 }

@@ -1,99 +1,54 @@
 // The profile of a forest, from its first tree and the profiles of its parts.
-ghost use Rattle.std.specs.Prelude.{◌≡◌, IfOk, map, set, true};
-ghost use Rattle.flux_auto.specs.Takes.{profile_nil, profile_element, profile_atom, has};
-ghost use Rattle.flux_auto.specs.Arcs.{IsIndex, mark_by_arc, mark_by_arcs, mark_by_leap};
+ghost use Rattle.std.specs.Prelude.{◌≡◌, IfOk, map};
+ghost use Rattle.flux_auto.specs.Takes.{profile_nil};
+ghost use Rattle.flux_auto.specs.Arcs.{IsIndex, mark_by_leap, fired};
 ghost use Rattle.flux_auto.specs.Built.{state_of};
 
-use crate::arcs::{Arc, Arcs, Leap};
+use crate::arcs::{Arcs, Leap};
+use crate::set::Set;
 use crate::table::Row;
-use flux_atom::{AtomKind, Name};
 use std::alloc::{AllocError, Global};
 
-// Whether the set has the state.
-pub(crate) fn takes(set: &[bool], state: u64) -> bool
-    ensures { result ≡ has set.now state }
+fn mark_by_leap(marks: &mut Set, leap: &Leap, rest: &Set)
+    ensures { marks.new ≡ mark_by_leap rest.now marks.old leap.now }
 {
-    match set.get(state as usize) {
-        Some(taken) => *taken,
-        None => false,
+    if rest.has(leap.next) {
+        marks.insert(leap.source);
     }
 }
 
-// Marks a state; nothing where it isn't there.
-fn mark(marks: &mut Vec<bool>, state: u64)
-    ensures { marks.new.items ≡ set marks.old.items state true }
+/// The profile of a tree and a rest, where there are so many states: the states that some edge by
+/// the tree leaves to a state that takes the rest.
+pub fn fired(alloc: Global, states: usize, leaps: &[Leap], rest: &Set) -> Result<Set, AllocError>
+    ensures { IfOk result (λ set. set ≡ fired states leaps.now rest.now) }
 {
-    if let Some(marked) = marks.get_mut(state as usize) {
-        *marked = true;
-    }
-}
-
-fn mark_by_arc(marks: &mut Vec<bool>, arc: &Arc, content: &[bool], rest: &[bool])
-    ensures { marks.new.items ≡ mark_by_arc content.now rest.now marks.old.items arc.now }
-{
-    if takes(content, arc.content) && takes(rest, arc.next) {
-        mark(marks, arc.source);
-    }
-}
-
-fn mark_by_arcs(marks: &mut Vec<bool>, arcs: &[Arc], content: &[bool], rest: &[bool])
-    ensures { marks.new.items ≡ mark_by_arcs content.now rest.now marks.old.items arcs.now }
-{
-    for arc in arcs {
-        mark_by_arc(marks, arc, content, rest);
-    }
-}
-
-fn mark_by_leap(marks: &mut Vec<bool>, leap: &Leap, rest: &[bool])
-    ensures { marks.new.items ≡ mark_by_leap rest.now marks.old.items leap.now }
-{
-    if takes(rest, leap.next) {
-        mark(marks, leap.source);
-    }
-}
-
-pub(crate) fn set_of_nil(alloc: Global, rows: &[Row]) -> Result<Vec<bool>, AllocError>
-    ensures { IfOk result (λ set. set.items ≡ profile_nil (map state_of rows.now)) }
-{
-    let mut set = Vec::new(alloc);
-    for row in rows {
-        set.push(row.ends)?;
-    }
-    Ok(set)
-}
-
-pub(crate) fn set_of_element(
-    alloc: Global,
-    rows: &[Row],
-    arcs: &Arcs,
-    label: Name,
-    content: &[bool],
-    rest: &[bool],
-) -> Result<Vec<bool>, AllocError>
-    requires { IsIndex rows.now arcs.now }
-    ensures { IfOk result (λ set.
-        set.items ≡ profile_element (map state_of rows.now) label content.now rest.now) }
-{
-    let mut set = Vec::from_elem(alloc, false, rows.len())?;
-    mark_by_arcs(&mut set, arcs.for_label(label), content, rest);
-    mark_by_arcs(&mut set, arcs.any_label.as_slice(), content, rest);
-    Ok(set)
-}
-
-pub(crate) fn set_of_atom(
-    alloc: Global,
-    rows: &[Row],
-    arcs: &Arcs,
-    kind: AtomKind,
-    rest: &[bool],
-) -> Result<Vec<bool>, AllocError>
-    requires { IsIndex rows.now arcs.now }
-    ensures { IfOk result (λ set. set.items ≡ profile_atom (map state_of rows.now) kind rest.now) }
-{
-    let mut set = Vec::from_elem(alloc, false, rows.len())?;
-    let leaps = arcs.for_kind(kind);
+    let mut set = Set::none(alloc, states)?;
     for leap in leaps {
         mark_by_leap(&mut set, leap, rest);
+    }
+    Ok(set)
+}
+
+// The edges of the states that the rows are.
+pub(crate) fn arcs_of(alloc: Global, rows: &[Row]) -> Result<Arcs, AllocError>
+    ensures { IfOk result (IsIndex (map state_of rows.now)) }
+{
+    let mut arcs = Arcs::new(alloc);
+    for source in 0..rows.len() {
+        arcs.add_all(source as u64, rows[source].edges.as_slice())?;
+    }
+    Ok(arcs)
+}
+
+// The profile of the empty forest.
+pub(crate) fn set_of_nil(alloc: Global, rows: &[Row]) -> Result<Set, AllocError>
+    ensures { IfOk result (λ set. set ≡ profile_nil (map state_of rows.now)) }
+{
+    let mut set = Set::none(alloc, rows.len())?;
+    for state in 0..rows.len() {
+        if rows[state].ends {
+            set.insert(state as u64);
+        }
     }
     Ok(set)
 }

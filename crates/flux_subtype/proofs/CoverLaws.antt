@@ -1,56 +1,87 @@
 -- Where each kept profile is taken up, the profile of each forest is kept.
-use Rattle.std.proofs.Common.{◌≡◌, ℕ, ◌<◌, ◌≤◌, List, length, Bool, true, false, refl, subst, inl, inr, arith}
+use Rattle.std.proofs.Common.{◌≡◌, ℕ, zero, suc, ◌<◌, ◌≤◌, List, [], ◌∷◌, length, map, replicate, Bool, true, false, ◌||◌, ◌&&◌, ◌==◌, refl, sym, ap, ap₂, subst, ◌∙◌, inl, inr, arith}
+use Rattle.std.specs.List.{list_any}
+use Rattle.flux_atom.specs.declared.atom.AtomKind.{AtomKind}
 use Rattle.flux_atom.specs.Atom.{kind_of}
-use Rattle.flux_trees.specs.Hedge.{Plain, nil, elem, leaf, others}
-use Rattle.flux_auto.specs.Takes.{State, has, takes}
-use Rattle.flux_subtype.specs.declared.index.Move.{Move}
-use Rattle.flux_subtype.specs.declared.kept.Kept.{Kept}
-use Rattle.flux_subtype.specs.declared.trees.Tree.{Tree}
-use Rattle.flux_subtype.specs.Going.{IsProfile, IsDead}
-use Rattle.flux_subtype.specs.Kept.{set_at}
-use Rattle.flux_subtype.specs.Search.{Stands, Answered, AllAnswered, IsDone, IsCovered, IsAgainst}
-use Rattle.flux_subtype.proofs.Items.{has-none}
-use Rattle.flux_subtype.proofs.GoingLaws.{takes_goes, MovesOf, element_moves, fires_profile, silent_dead}
+use Rattle.flux_trees.specs.Hedge.{Plain, nil, elem, leaf}
+use Rattle.flux_schema.specs.Tidy.{same_kind}
+use Rattle.flux_auto.specs.declared.arcs.Leap.{Leap}
+use Rattle.flux_auto.specs.declared.edge.Edge.{Edge}
+use Rattle.flux_auto.specs.declared.edge.Edge.TheVariants.{Atom, Elem, AnyElem}
+use Rattle.flux_auto.specs.Takes.{State, has, goes_by_element, goes_by_atom, profile, profile_element, profile_atom, takes}
+use Rattle.flux_auto.specs.Arcs.{fired}
+use Rattle.flux_subtype.specs.Kept.{Kept, set_at}
+use Rattle.flux_subtype.specs.Search.{Tree, dead, Stands, Answered, AllAnswered, IsDone, IsCovered, IsAgainst}
 
-content_dead : (a : List State) (n : ℕ) (c w : Plain) → IsDead a c → IsDead a (elem tt n c w)
-content_dead a n c w d s t = let g = takes_goes a s (elem tt n c w) (λ e. cc) t in d g.1.0 g.1.2
+-- ---- what no state takes
 
-rest_dead : (a : List State) (v : Plain) → (v ≡ nil → ⊥) → IsDead a (others v) → IsDead a v
-rest_dead a v ne d s t = let g = takes_goes a s v ne t in d g.0 g.2
+pub has-none : (n s : ℕ) → has (replicate n false) s ≡ false
+has-none zero s = refl
+has-none (suc n) zero = refl
+has-none (suc n) (suc s) = has-none n s
 
-answered_covered : (a : List State) (ks : List Kept) (moves : List Move) (q : List Bool) (v : Plain) → MovesOf a moves v → (v ≡ nil → ⊥) → IsProfile a q (others v) → Answered ks moves q → IsCovered a ks v
-answered_covered a ks moves q v of ne rest (inl silent) = inl (silent_dead a moves q v of ne rest silent)
-answered_covered a ks moves q v of ne rest (inr (i, l, f)) = inr (i, l, fires_profile a moves q (set_at ks i) v of ne rest f)
+and_off : (b : Bool) → b && false ≡ false
+and_off true = refl
+and_off false = refl
 
-stands_answered : (ks : List Kept) (ts : List Tree) (n j : ℕ) (moves : List Move) → Stands ts moves → AllAnswered ks ts n → j < n → Answered ks moves (set_at ks j)
-stands_answered ks ts n j moves (inl none) all l = inl (λ s r h. absurd (has-none moves h.0 none h.1))
-stands_answered ks ts n j moves (inr (t, at, is)) all l = subst (λ ms. Answered ks ms (set_at ks j)) is (all t j at l)
+any_off : (f : Edge → Bool) → ((e : Edge) → f e ≡ false) → (es : List Edge) → list_any f es ≡ false
+any_off f off [] = refl
+any_off f off (e ∷ es) = ap₂ (λ a b. a || b) (off e) (any_off f off es)
 
-pub all_covered : (a : List State) (ks : List Kept) (ts : List Tree) (n : ℕ) → length ks ≤ n → IsDone a ks ts n → (v : Plain) → IsCovered a ks v
+-- no state takes a tree by which no edge goes
+none_takes : (f : Edge → Bool) → ((e : Edge) → f e ≡ false) → (a : List State) → map (λ (s : State). list_any f s.edges) a ≡ dead a
+none_takes f off [] = refl
+none_takes f off (s ∷ a) = ap₂ (λ b l. b ∷ l) (any_off f off s.edges) (none_takes f off a)
+
+dead_content : (a : List State) (n : ℕ) (q : List Bool) → profile_element a n (dead a) q ≡ dead a
+dead_content a n q = none_takes (goes_by_element n (dead a) q) (elim [
+  | Atom k r ↦ refl
+  | Elem m c r ↦ ap (λ b. (m == n) && (b && has q r)) (has-none (length a) c) ∙ and_off (m == n)
+  | AnyElem c r ↦ ap (λ b. b && has q r) (has-none (length a) c)
+]) a
+
+dead_rest : (a : List State) (n : ℕ) (p : List Bool) → profile_element a n p (dead a) ≡ dead a
+dead_rest a n p = none_takes (goes_by_element n p (dead a)) (elim [
+  | Atom k r ↦ refl
+  | Elem m c r ↦ ap (λ b. (m == n) && (has p c && b)) (has-none (length a) r) ∙ ap (λ b. (m == n) && b) (and_off (has p c)) ∙ and_off (m == n)
+  | AnyElem c r ↦ ap (λ b. has p c && b) (has-none (length a) r) ∙ and_off (has p c)
+]) a
+
+dead_atom : (a : List State) (k : AtomKind) → profile_atom a k (dead a) ≡ dead a
+dead_atom a k = none_takes (goes_by_atom k (dead a)) (elim [
+  | Atom j r ↦ ap (λ b. same_kind j k && b) (has-none (length a) r) ∙ and_off (same_kind j k)
+  | Elem m c r ↦ refl
+  | AnyElem c r ↦ refl
+]) a
+
+-- ---- what is kept
+
+-- the profile of a tree that is kept, before a profile that was taken up
+tree_covered : (a : List State) (ks : List Kept) (ts : List Tree) (n j : ℕ) (leaps : List Leap) (p : List Bool) → Stands ts leaps → AllAnswered a ks ts n → j < n → fired (length a) leaps (set_at ks j) ≡ p → IsCovered a ks p
+tree_covered a ks ts n j leaps p (t, at, is) all l e = subst (IsCovered a ks) e (subst (λ ls. Answered a ks ls (set_at ks j)) is (all t j at l))
+
+pub all_covered : (a : List State) (ks : List Kept) (ts : List Tree) (n : ℕ) → length ks ≤ n → IsDone a ks ts n → (v : Plain) → IsCovered a ks (profile a v)
 all_covered a ks ts n le done nil = inr done.first
 all_covered a ks ts n le done (leaf _ x w) = at (all_covered a ks ts n le done w)
   where
-    at : IsCovered a ks w → IsCovered a ks (leaf tt x w)
-    at (inl dead) = inl (rest_dead a (leaf tt x w) (λ e. cc) dead)
-    at (inr (j, l, is)) =
-        let k = done.kinds (kind_of x) in
-        answered_covered a ks k.0 (set_at ks j) (leaf tt x w) k.1 (λ e. cc) is (stands_answered ks ts n j k.0 k.2 done.answered (omega arith))
+    at : IsCovered a ks (profile a w) → IsCovered a ks (profile_atom a (kind_of x) (profile a w))
+    at (inl off) = inl (ap (profile_atom a (kind_of x)) off ∙ dead_atom a (kind_of x))
+    at (inr (j, l, is)) = let k = done.kinds (kind_of x) in tree_covered a ks ts n j k.0 (profile_atom a (kind_of x) (profile a w)) k.2 done.answered (omega arith) (k.1 (set_at ks j) ∙ ap (profile_atom a (kind_of x)) is)
 all_covered a ks ts n le done (elem _ m c w) = at (all_covered a ks ts n le done c) (all_covered a ks ts n le done w)
   where
-    at : IsCovered a ks c → IsCovered a ks w → IsCovered a ks (elem tt m c w)
-    at (inl dead) r = inl (content_dead a m c w dead)
-    at (inr p) (inl dead) = inl (rest_dead a (elem tt m c w) (λ e. cc) dead)
+    at : IsCovered a ks (profile a c) → IsCovered a ks (profile a w) → IsCovered a ks (profile_element a m (profile a c) (profile a w))
+    at (inl off) r = inl (ap (λ p. profile_element a m p (profile a w)) off ∙ dead_content a m (profile a w))
+    at (inr p) (inl off) = inl (ap (profile_element a m (profile a c)) off ∙ dead_rest a m (profile a c))
     at (inr (i, h, in_content)) (inr (j, l, is)) =
         let k = done.labels i (omega arith) m in
-        answered_covered a ks k.0 (set_at ks j) (elem tt m c w) (element_moves a m (set_at ks i) k.0 c w k.1 in_content) (λ e. cc) is
-        (stands_answered ks ts n j k.0 k.2 done.answered (omega arith))
+        tree_covered a ks ts n j k.0 (profile_element a m (profile a c) (profile a w)) k.2 done.answered (omega arith) (k.1 (set_at ks j) ∙ ap₂ (profile_element a m) in_content is)
 
 right_or_against : (ks : List Kept) (left right i : ℕ) (b : Bool) → has (set_at ks i) right ≡ b → has (set_at ks i) left ≡ true → (IsAgainst ks left right i → ⊥) → has (set_at ks i) right ≡ true
 right_or_against ks left right i true e h f = e
 right_or_against ks left right i false e h f = absurd (f (h, e))
 
 -- where no kept profile is against it, the right state takes what the left one takes
-pub covered_right : (a : List State) (ks : List Kept) (left right : ℕ) → ((i : ℕ) → i < length ks → IsAgainst ks left right i → ⊥) → (v : Plain) → IsCovered a ks v → takes a left v ≡ true → takes a right v ≡ true
-covered_right a ks left right f v (inl dead) t = absurd (dead left t)
+pub covered_right : (a : List State) (ks : List Kept) (left right : ℕ) → ((i : ℕ) → i < length ks → IsAgainst ks left right i → ⊥) → (v : Plain) → IsCovered a ks (profile a v) → takes a left v ≡ true → takes a right v ≡ true
+covered_right a ks left right f v (inl off) t = absurd (let x : true ≡ false = sym t ∙ ap (λ p. has p left) off ∙ has-none (length a) left in cc)
 covered_right a ks left right f v (inr (i, l, is)) t =
-    (is right).0 (right_or_against ks left right i (has (set_at ks i) right) refl ((is left).1 t) (f i l))
+    ap (λ p. has p right) (sym is) ∙ right_or_against ks left right i (has (set_at ks i) right) refl (ap (λ p. has p left) is ∙ t) (f i l)

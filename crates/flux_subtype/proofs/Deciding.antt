@@ -12,7 +12,8 @@ use Rattle.flux_schema.specs.Labels.{Lacks, BodiesLack, IsGiven, IsLabelledBy}
 use Rattle.flux_schema.proofs.LabelLaws.{each_label}
 use Rattle.flux_types.specs.Verdicts.{IsEvidence}
 use Rattle.flux_auto.specs.Automaton.{Automaton, TakesMembers, EdgesGiven}
-use Rattle.flux_subtype.specs.Going.{IsEdgeLabel, LacksEdge}
+use Rattle.flux_auto.specs.Witness.{IsShownBy}
+use Rattle.flux_subtype.specs.Going.{LacksEdge}
 use Rattle.flux_subtype.specs.Search.{IsAnswer}
 
 -- one of two
@@ -33,12 +34,12 @@ lacks_edge a t u other given types bodies left right s c r (state, at, (i, is)) 
     ]
 
 -- the labels of edges are given
-pub labelled_by : (a : Automaton) (defs : Definitions) (t u : Ty) (other : ℕ) (v : Plain) → EdgesGiven a → a.types ≡ t ∷ u ∷ [] → a.definitions ≡ defs → EachLabel (λ n. (n ≡ other) ⊎ IsEdgeLabel a.states n) v → IsLabelledBy defs other (t ∷ u ∷ []) v
+pub labelled_by : (a : Automaton) (defs : Definitions) (t u : Ty) (other : ℕ) (v : Plain) → EdgesGiven a → a.types ≡ t ∷ u ∷ [] → a.definitions ≡ defs → EachLabel (IsShownBy a.states other) v → IsLabelledBy defs other (t ∷ u ∷ []) v
 labelled_by a defs t u other v given types same each =
-    EachLabel-more (λ n. (n ≡ other) ⊎ IsEdgeLabel a.states n) (λ n. (n ≡ other) ⊎ IsGiven defs (t ∷ u ∷ []) n)
+    EachLabel-more (IsShownBy a.states other) (λ n. (n ≡ other) ⊎ IsGiven defs (t ∷ u ∷ []) n)
     (λ n h. elim h [
       | inl e ↦ inl e
-      | inr (s, c, r, (state, at, (i, is))) ↦ inr (subst (λ ts. IsGiven defs ts n) types (subst (λ ds. IsGiven ds a.types n) same (given s state at i n c r is)))
+      | inr (s, state, at, i, c, r, is) ↦ inr (subst (λ ts. IsGiven defs ts n) types (subst (λ ds. IsGiven ds a.types n) same (given s state at i n c r is)))
     ]) v each
 
 pub two_types : (ts us vs : List Ty) (t u : Ty) → ts ≡ [] → us ≡ ts ++ t ∷ [] → vs ≡ us ++ u ∷ [] → vs ≡ t ∷ u ∷ []

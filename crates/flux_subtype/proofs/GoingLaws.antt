@@ -1,6 +1,6 @@
 -- A state takes a forest that isn't empty exactly where it goes by the first tree to a state that
 -- takes the others.
-use Rattle.std.proofs.Common.{◌≡◌, ◌⊎◌, ◌↔◌, ℕ, zero, suc, ◌||◌, ◌==◌, List, [], ◌∷◌, map, Bool, true, false, Some, slice_get, refl, sym, ap, subst, ◌∙◌, inl, inr}
+use Rattle.std.proofs.Common.{◌≡◌, ◌⊎◌, ℕ, zero, suc, ◌||◌, ◌==◌, List, [], ◌∷◌, map, Bool, true, false, Some, slice_get, refl, sym, ap, subst, ◌∙◌, inl, inr}
 use Rattle.std.proofs.lemmas.Bool.{and_parts}
 use Rattle.std.specs.List.{list_any}
 use Rattle.std.proofs.lemmas.Bool.Decides.{eqb_tells}
@@ -14,10 +14,8 @@ use Rattle.flux_schema.proofs.SameLaws.{same_kind-eq, same_kind-same}
 use Rattle.flux_auto.specs.declared.edge.Edge.{Edge}
 use Rattle.flux_auto.specs.declared.edge.Edge.TheVariants.{Atom, Elem, AnyElem}
 use Rattle.flux_auto.specs.Takes.{State, has, goes_by_element, goes_by_atom, takes}
-use Rattle.flux_subtype.specs.declared.index.Move.{Move}
-use Rattle.flux_subtype.specs.Going.{Has, HasElement, Goes, IsProfile, IsDead}
-use Rattle.flux_subtype.specs.Index.{Moves, ByElement}
-use Rattle.flux_subtype.specs.Search.{Fires, IsSilent}
+use Rattle.flux_auto.specs.Arcs.{Has}
+use Rattle.flux_subtype.specs.Going.{HasElement, Goes}
 
 has_map : (f : State → Bool) (a : List State) (s : ℕ) → has (map f a) s ≡ true → (st : State) × (slice_get a s ≡ Some st) × (f st ≡ true)
 has_map f [] s e = cc
@@ -37,7 +35,7 @@ any_is f (e ∷ es) h = by (f e) refl h (any_is f es)
     by true is g rest = (e, (0, refl), is)
     by false is g rest = let r = rest g in (r.0, (suc r.1.0, r.1.1), r.2)
 
-pub equal : (m n : ℕ) → (m == n) ≡ true → m ≡ n
+equal : (m n : ℕ) → (m == n) ≡ true → m ≡ n
 equal m n e = elim (eqb_tells m n) [ inl h ↦ h.1 | inr h ↦ absurd (let x : true ≡ false = sym e ∙ h.0 in cc) ]
 
 equal_is : (n : ℕ) → (n == n) ≡ true
@@ -90,22 +88,3 @@ goes_takes a s nil r g h = absurd g
 goes_takes a s (elem _ n c w) r (d, inl (st, at, (k, is)), t) h = map_has _ a s st at (any_passes_from_place _ st.edges k (Elem n d r) is (element_by n _ _ d r t h))
 goes_takes a s (elem _ n c w) r (d, inr (st, at, (k, is)), t) h = map_has _ a s st at (any_passes_from_place _ st.edges k (AnyElem d r) is (two t h))
 goes_takes a s (leaf _ x w) r (st, at, (k, is)) h = map_has _ a s st at (any_passes_from_place _ st.edges k (Atom (kind_of x) r) is (atom_by (kind_of x) _ r h))
-
--- the moves are those by the first tree of the forest
-abbrev pub MovesOf : List State → List Move → Plain → Type 0
-MovesOf a moves v = (s r : ℕ) → Moves moves s r ↔ Goes a s v r
-
-pub element_moves : (a : List State) (n : ℕ) (p : List Bool) (moves : List Move) (c w : Plain) → ByElement a n p moves → IsProfile a p c → MovesOf a moves (elem tt n c w)
-element_moves a n p moves c w by is s r =
-    ((λ h. let g = (by s r).0 h in (g.0, g.1, (is g.0).0 g.2)), (λ g. (by s r).1 (g.0, g.1, (is g.0).1 g.2)))
-
-pub fires_profile : (a : List State) (moves : List Move) (q p : List Bool) (v : Plain) → MovesOf a moves v → (v ≡ nil → ⊥) → IsProfile a q (others v) → Fires moves q p → IsProfile a p v
-fires_profile a moves q p v of ne rest f s = (
-  (λ h. let m = (f s).0 h in goes_takes a s v m.0 ((of s m.0).0 m.1) ((rest m.0).0 m.2)),
-  (λ t. let g = takes_goes a s v ne t in (f s).1 (g.0, (of s g.0).1 g.1, (rest g.0).1 g.2)),
-)
-
-pub silent_dead : (a : List State) (moves : List Move) (q : List Bool) (v : Plain) → MovesOf a moves v → (v ≡ nil → ⊥) → IsProfile a q (others v) → IsSilent moves q → IsDead a v
-silent_dead a moves q v of ne rest f s t =
-    let g = takes_goes a s v ne t in
-    f s g.0 ((of s g.0).1 g.1) ((rest g.0).1 g.2)

@@ -1,12 +1,8 @@
 pub mod Items
-pub mod SetLaws
 pub mod GoingLaws
 pub mod PartLaws
 pub mod KeptLaws
 pub mod CoverLaws
-pub mod IndexLaws
-pub mod Firing
 pub mod Turning
-pub mod Many
 pub mod Searching
 pub mod Deciding

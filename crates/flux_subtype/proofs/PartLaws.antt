@@ -1,17 +1,25 @@
 -- The part of an automaton that some states lead to: how it is found, and what its states take.
-use Rattle.std.proofs.Common.{◌≡◌, ◌⊎◌, ◌↔◌, ℕ, zero, suc, ◌+◌, ◌<◌, List, [], ◌∷◌, ◌++◌, length, Bool, true, false, Some, slice_get, refl, sym, ap, subst, ◌∙◌, inl, inr, arith, length-append}
+use Rattle.std.proofs.Common.{◌≡◌, ◌⊎◌, ◌↔◌, ℕ, zero, suc, ◌+◌, ◌<◌, List, [], ◌∷◌, ◌++◌, length, take, Bool, true, false, if◌then◌else◌, replicate, Some, slice_get, refl, sym, ap, subst, ◌∙◌, inl, inr, arith, length-append}
 use Rattle.std.specs.Option.{option_map}
+use Rattle.std.proofs.Math.ListN.{set}
+use Rattle.std.proofs.lemmas.List.{get_or-set_same, get_or-set_other, length-replicate, length-set}
+use Rattle.flux_atom.proofs.Plain.{same_or_not}
 use Rattle.flux_atom.specs.declared.atom.Atom.{Atom as Value}
 use Rattle.flux_atom.specs.Atom.{kind_of}
 use Rattle.flux_trees.specs.Hedge.{Plain, nil, elem, leaf}
+use Rattle.std.proofs.lemmas.Option.{get_or_from_slice_get}
+use Rattle.flux_auto.specs.declared.arcs.Arcs.{Arcs}
 use Rattle.flux_auto.specs.declared.edge.Edge.{Edge}
 use Rattle.flux_auto.specs.declared.edge.Edge.TheVariants.{Atom, Elem, AnyElem}
 use Rattle.flux_auto.specs.Takes.{State, has, takes, EdgeBelow, EdgesBelow}
 use Rattle.flux_auto.specs.Automaton.{EdgesInside}
-use Rattle.flux_subtype.specs.Going.{Has, HasEdge, HasElement}
+use Rattle.flux_auto.specs.Arcs.{Has, Adds, IsIndex, leaving}
+use Rattle.flux_subtype.specs.Going.{HasEdge, HasElement}
 use Rattle.flux_subtype.specs.Part.{LeadInside, LeadsInto, AllLeadInto, IsClosed, missing, Extends, bare, part_of, IsPartOf}
-use Rattle.flux_auto.proofs.Items.{some_is}
-use Rattle.flux_subtype.proofs.Items.{below_or_at, grows-refl, grows-trans, grows-has, has-append, has-last, has-push, has-nil}
+use Rattle.flux_auto.proofs.ArcLaws.{index_next, ends_below, ends_next}
+use Rattle.flux_auto.proofs.Items.{some_is, has-append, has-last, has-push, has-nil}
+use Rattle.flux_subtype.proofs.CoverLaws.{has-none}
+use Rattle.flux_subtype.proofs.Items.{below_or_at, grows-refl, grows-trans, grows-has}
 use Rattle.flux_subtype.proofs.GoingLaws.{takes_goes, goes_takes}
 
 same_value : (a b : Bool) → (a ≡ true) ↔ (b ≡ true) → a ≡ b
@@ -22,41 +30,18 @@ same_value false true e = e.1 refl
 
 -- ---- a state more
 
-missing-same : (p q : List Bool) → length q ≡ length p → ((s : ℕ) → (has q s ≡ true) ↔ (has p s ≡ true)) → missing q ≡ missing p
-missing-same [] [] l e = refl
-missing-same [] (b ∷ q) l e = absurd (omega (arith, l))
-missing-same (b ∷ p) [] l e = absurd (omega (arith, l))
-missing-same (b ∷ p) (c ∷ q) l e = by b c (same_value c b (e 0)) (missing-same p q (omega (arith, l)) (λ s. e (suc s)))
-  where
-    by : (b c : Bool) → c ≡ b → missing q ≡ missing p → missing (c ∷ q) ≡ missing (b ∷ p)
-    by true true h r = r
-    by false false h r = ap suc r
-    by true false h r = cc
-    by false true h r = cc
+missing-insert : (p : List Bool) (s : ℕ) → s < length p → has p s ≡ false → missing (set p s true) + 1 ≡ missing p
+missing-insert [] s h off = absurd (omega (arith, h))
+missing-insert (true ∷ p) zero h off = cc
+missing-insert (false ∷ p) zero h off = omega arith
+missing-insert (true ∷ p) (suc s) h off = missing-insert p s (omega (arith, h)) off
+missing-insert (false ∷ p) (suc s) h off = omega (arith, missing-insert p s (omega (arith, h)) off)
 
-missing-insert : (p q : List Bool) (s : ℕ) → length q ≡ length p → s < length p → has p s ≡ false → ((t : ℕ) → (has q t ≡ true) ↔ ((t ≡ s) ⊎ (has p t ≡ true))) → missing q + 1 ≡ missing p
-missing-insert [] q s l h off e = absurd (omega (arith, h))
-missing-insert (b ∷ p) [] s l h off e = absurd (omega (arith, l))
-missing-insert (b ∷ p) (c ∷ q) zero l h off e = by b c off ((e 0).1 (inl refl)) (missing-same p q (omega (arith, l)) (λ t. (
-  (λ x. elim ((e (suc t)).0 x) [ inl same ↦ absurd (omega (arith, same)) | inr y ↦ y ]),
-  (λ y. (e (suc t)).1 (inr y)),
-)))
-  where
-    by : (b c : Bool) → b ≡ false → c ≡ true → missing q ≡ missing p → missing (c ∷ q) + 1 ≡ missing (b ∷ p)
-    by true c h g r = cc
-    by false false h g r = cc
-    by false true h g r = omega (arith, r)
-missing-insert (b ∷ p) (c ∷ q) (suc s) l h off e =
-    by b c (same_value c b ((λ x. elim ((e 0).0 x) [ inl same ↦ absurd (omega (arith, same)) | inr y ↦ y ]), (λ y. (e 0).1 (inr y)))) (missing-insert p q s (omega (arith, l)) (omega (arith, h)) off (λ t. (
-      (λ x. elim ((e (suc t)).0 x) [ inl same ↦ inl (omega (arith, same)) | inr y ↦ inr y ]),
-      (λ z. (e (suc t)).1 (elim z [ inl same ↦ inl (ap suc same) | inr y ↦ inr y ])),
-    )))
-  where
-    by : (b c : Bool) → c ≡ b → missing q + 1 ≡ missing p → missing (c ∷ q) + 1 ≡ missing (b ∷ p)
-    by true true g r = r
-    by false false g r = omega (arith, r)
-    by true false g r = cc
-    by false true g r = cc
+pub has-insert : (p : List Bool) (s t : ℕ) → s < length p → (has (set p s true) t ≡ true) ↔ ((t ≡ s) ⊎ (has p t ≡ true))
+has-insert p s t h = elim (same_or_not t s) [
+  | inl e ↦ ((λ g. inl e), (λ g. ap (has (set p s true)) e ∙ get_or-set_same p s true false h))
+  | inr ne ↦ ((λ g. inr (sym (get_or-set_other p s t true false ne) ∙ g)), elim [ inl e ↦ absurd (ne e) | inr g ↦ get_or-set_other p s t true false ne ∙ g ])
+]
 
 pub extends-refl : (p : List Bool) (l : List ℕ) → Extends p l p l
 extends-refl p l = record {
@@ -84,15 +69,15 @@ extends-trans p q r l m n x y = record {
   work = omega (arith, x.work, y.work);
 }
 
-pub extends-one : (p q : List Bool) (l m : List ℕ) (s : ℕ) → s < length p → has p s ≡ false → length q ≡ length p → ((t : ℕ) → (has q t ≡ true) ↔ ((t ≡ s) ⊎ (has p t ≡ true))) → m ≡ l ++ s ∷ [] → Extends p l q m
-extends-one p q l m s h off long inserts e = record {
-  long = long;
-  kept = λ t g. (inserts t).1 (inr g);
+pub extends-one : (p q : List Bool) (l m : List ℕ) (s : ℕ) → s < length p → has p s ≡ false → q ≡ set p s true → m ≡ l ++ s ∷ [] → Extends p l q m
+extends-one p q l m s h off is e = subst (λ r. Extends p l r m) (sym is) (record {
+  long = length-set p s true;
+  kept = λ t g. (has-insert p s t h).1 (inr g);
   grows = (s ∷ [], e);
-  new = λ t g. elim ((inserts t).0 g) [ inl same ↦ inr (subst (λ x. Has m x) (sym same) (subst (λ k. Has k s) (sym e) (has-last l s))) | inr was ↦ inl was ];
+  new = λ t g. elim ((has-insert p s t h).0 g) [ inl same ↦ inr (subst (λ x. Has m x) (sym same) (subst (λ k. Has k s) (sym e) (has-last l s))) | inr was ↦ inl was ];
   inside = λ t g. elim (has-push l s t (subst (λ k. Has k t) e g)) [ inl was ↦ inl was | inr same ↦ inr (omega (arith, same, h)) ];
-  work = omega (arith, missing-insert p q s long h off inserts, ap length e, length-append l (s ∷ []));
-}
+  work = omega (arith, missing-insert p s h off, ap length e, length-append l (s ∷ []));
+})
 
 -- ---- edges
 
@@ -139,8 +124,8 @@ pub record Follows (a : List State) (one two : ℕ) (used : List Bool) (pending 
   pub left : has used one ≡ true
   pub right : has used two ≡ true
 
-pub follows-begin : (a : List State) (left right : ℕ) (none p q : List Bool) (l m n : List ℕ) → length none ≡ length a → ((s : ℕ) → has none s ≡ false) → l ≡ [] → Extends none l p m → has p left ≡ true → Extends p m q n → has q right ≡ true → Follows a left right q n
-follows-begin a left right none p q l m n long empty e x there y here = record {
+pub follows-begin : (a : List State) (left right : ℕ) (none p q : List Bool) (l m n : List ℕ) (count : ℕ) → none ≡ replicate count false → count ≡ length a → l ≡ [] → Extends none l p m → has p left ≡ true → Extends p m q n → has q right ≡ true → Follows a left right q n
+follows-begin a left right none p q l m n count bare many e x there y here = record {
   long = y.long ∙ x.long ∙ long;
   followed = λ s h. elim (both.new s h) [ inl g ↦ absurd (let z : true ≡ false = sym g ∙ empty s in cc) | inr g ↦ inl g ];
   inside = λ s h. elim (both.inside s h) [ inl g ↦ absurd (has-nil s (subst (λ k. Has k s) e g)) | inr g ↦ omega (arith, g, long) ];
@@ -150,6 +135,12 @@ follows-begin a left right none p q l m n long empty e x there y here = record {
   where
     both : Extends none l q n
     both = extends-trans none p q l m n x y
+
+    long : length none ≡ length a
+    long = ap length bare ∙ length-replicate count false ∙ many
+
+    empty : (s : ℕ) → has none s ≡ false
+    empty s = ap (λ k. has k s) bare ∙ has-none count s
 
 pub follows-next : (a : List State) (left right : ℕ) (p q : List Bool) (l m n : List ℕ) (s : ℕ) (es : List Edge) → Follows a left right p l → l ≡ m ++ s ∷ [] → (st : State) × (slice_get a s ≡ Some st) × (st.edges ≡ es)
     → Extends p m q n → AllLeadInto q es (length es) → Follows a left right q n
@@ -297,3 +288,27 @@ edges-in a p s q es e h is = ap (λ l. option_map (λ (st : State). st.edges) (s
 
 pub edges-out : (a : List State) (p : List Bool) (s : ℕ) (q : List State) → part_of a p ≡ q → has p s ≡ false → s < length q → option_map (λ (st : State). st.edges) (slice_get q s) ≡ Some []
 edges-out a p s q e off l = ap (λ k. option_map (λ (st : State). st.edges) (slice_get k s)) (sym e) ∙ ap (option_map (λ (st : State). st.edges)) (part-out a p s off (omega (arith, l, length-part a p, ap length e)))
+
+-- ---- a state
+
+pub edges_at : (a : List State) (s : ℕ) (es : List Edge) → option_map (λ (st : State). st.edges) (slice_get a s) ≡ Some es → (st : State) × (slice_get a s ≡ Some st) × (st.edges ≡ es)
+edges_at [] s es e = cc
+edges_at (st ∷ a) zero es e = (st, refl, some_is st.edges es e)
+edges_at (st ∷ a) (suc s) es e = edges_at a s es e
+
+pub ends_at : (a : List State) (s : ℕ) (b : Bool) → option_map (λ (st : State). st.ends) (slice_get a s) ≡ Some b → (st : State) × (slice_get a s ≡ Some st) × (st.ends ≡ b)
+ends_at [] s b e = cc
+ends_at (st ∷ a) zero b e = (st, refl, some_is st.ends b e)
+ends_at (st ∷ a) (suc s) b e = ends_at a s b e
+
+-- ---- the states of the part, one after another
+
+pub index_more : (a : List State) (old new : Arcs) (i : ℕ) (es : List Edge) → IsIndex (take i a) old → i < length a → option_map (λ (st : State). st.edges) (slice_get a i) ≡ Some es → Adds old new (leaving i es) → IsIndex (take (i + 1) a) new
+index_more a old new i es before lt at adds =
+    let st = edges_at a i es at in
+    index_next a old new i st.0 before lt (sym (get_or_from_slice_get a i st.0 st.0 st.1)) (subst (λ l. Adds old new (leaving i l)) (sym st.2) adds)
+
+pub ends_more : (a : List State) (i : ℕ) (b : Bool) (p q : List Bool) → i < length a → option_map (λ (st : State). st.ends) (slice_get a i) ≡ Some b → p ≡ ends_below a i → q ≡ (if b then set p i true else p) → q ≡ ends_below a (i + 1)
+ends_more a i b p q lt at before is =
+    let st = ends_at a i b at in
+    ends_next a i st.0 b p q lt (sym (get_or_from_slice_get a i st.0 st.0 st.1)) st.2 before is

@@ -1,14 +1,11 @@
--- How the states of an automaton go on, tree by tree, and which states take a forest.
-use Rattle.std.specs.Prelude.{◌≡◌, ◌⊎◌, ◌↔◌, ℕ, List, Bool, true, Some, slice_get}
+-- How the states of an automaton go on, tree by tree.
+use Rattle.std.specs.Prelude.{◌≡◌, ◌⊎◌, ℕ, List, true, Some, slice_get}
 use Rattle.flux_atom.specs.Atom.{kind_of}
 use Rattle.flux_trees.specs.Hedge.{Plain, nil, elem, leaf}
 use Rattle.flux_auto.specs.declared.edge.Edge.{Edge}
 use Rattle.flux_auto.specs.declared.edge.Edge.TheVariants.{Atom, Elem, AnyElem}
-use Rattle.flux_auto.specs.Takes.{State, has, takes}
-
--- the list has the item, at some place
-abbrev pub Has : {X : Type 0} → List X → X → Type 0
-Has xs x = (k : ℕ) × (slice_get xs k ≡ Some x)
+use Rattle.flux_auto.specs.Takes.{State, takes}
+use Rattle.flux_auto.specs.Arcs.{Has}
 
 -- the state has the edge
 abbrev pub HasEdge : List State → ℕ → Edge → Type 0
@@ -17,10 +14,6 @@ HasEdge a s e = (state : State) × (slice_get a s ≡ Some state) × Has state.e
 -- the state goes by an element of the label, or of any label
 abbrev pub HasElement : List State → ℕ → ℕ → ℕ → ℕ → Type 0
 HasElement a s n c r = HasEdge a s (Elem n c r) ⊎ HasEdge a s (AnyElem c r)
-
--- the label is that of an edge
-abbrev pub IsEdgeLabel : List State → ℕ → Type 0
-IsEdgeLabel a n = (s : ℕ) × (c : ℕ) × (r : ℕ) × HasEdge a s (Elem n c r)
 
 -- no edge is by an element with the label alone
 abbrev pub LacksEdge : List State → ℕ → Type 0
@@ -32,11 +25,3 @@ abbrev pub Goes : List State → ℕ → Plain → ℕ → Type 0
 Goes a s nil r = ⊥
 Goes a s (elem _ n v w) r = (c : ℕ) × HasElement a s n c r × (takes a c v ≡ true)
 Goes a s (leaf _ x w) r = HasEdge a s (Atom (kind_of x) r)
-
--- the set is the profile of the forest: it has just the states that take it
-abbrev pub IsProfile : List State → List Bool → Plain → Type 0
-IsProfile a p v = (s : ℕ) → (has p s ≡ true) ↔ (takes a s v ≡ true)
-
--- no state takes the forest
-abbrev pub IsDead : List State → Plain → Type 0
-IsDead a v = (s : ℕ) → takes a s v ≡ true → ⊥

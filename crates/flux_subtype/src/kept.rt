@@ -1,55 +1,44 @@
-// The profiles that are kept. The profile of a forest is the set of the states that take it.
-ghost use Rattle.std.specs.Prelude.{◌≡◌, IfOk, IfSome, IfNone};
-ghost use Rattle.flux_subtype.specs.Kept.{Keeps, IsKept, IsFresh, recipes};
+// The profiles that are kept, each with how a forest that has it is made of those of profiles that
+// were kept before. The profile of a forest is the set of the states that take it.
+ghost use Rattle.std.specs.Prelude.{◌≡◌, ◌<◌, length, IfOk, OnOk};
+ghost use Rattle.flux_subtype.specs.Kept.{Keeps, recipes, set_at};
 
-use crate::set::Set;
-use flux_auto::Recipe;
+use flux_auto::{Recipe, Set};
+use indexmap::IndexMap;
 use std::alloc::{AllocError, Global};
 
-// A profile, and how a forest that has it is made of those of profiles kept before.
-#[derive(Drop)]
-pub(crate) struct Kept {
-    pub(crate) set: Set,
-    pub(crate) from: Recipe,
-}
-
-// The place of a profile, if it is kept. One place is looked at first.
-fn place_of(kept: &[Kept], set: &Set, first: usize) -> Option<usize>
-    ensures found { IfSome result (λ _. IsKept kept.now set.now) }
-    ensures none { IfNone result (IsFresh kept.now set.now) }
+// The profile at a place.
+pub(crate) fn set_at(kept: &IndexMap<Set, Recipe>, place: usize) -> &Set
+    requires { place < length kept.now.entries }
+    ensures { result.now ≡ set_at kept.now.entries place }
 {
-    if first < kept.len() && kept[first].set.is_same(set) {
-        return Some(first);
+    match kept.get_index(place) {
+        Some((set, _)) => set,
+        None => unreachable!(),
     }
-    for index in 0..kept.len() {
-        if kept[index].set.is_same(set) {
-            return Some(index);
-        }
-    }
-    None
 }
 
-// Keeps a profile, unless it is kept already, and tells its place. A good guess of the place spares
-// a search.
+// Keeps a profile, unless it is kept already.
 pub(crate) fn keep(
-    kept: &mut Vec<Kept>,
+    kept: &mut IndexMap<Set, Recipe>,
     set: Set,
     from: Recipe,
-    guess: usize,
-) -> Result<usize, AllocError>
-    ensures { IfOk result (λ _. Keeps kept.old.items set from kept.new.items) }
+) -> Result<(), AllocError>
+    ensures { OnOk result (Keeps kept.old.entries set from kept.new.entries) }
 {
-    if let Some(place) = place_of(kept, &set, guess) {
-        return Ok(place);
+    if kept.contains_key(&set) {
+        return Ok(());
     }
-    let place = kept.len();
-    kept.push(Kept { set, from })?;
-    Ok(place)
+    kept.insert(set, from)?;
+    Ok(())
 }
 
 // How the forests of the kept profiles are made.
-pub(crate) fn recipes_of(alloc: Global, kept: &[Kept]) -> Result<Vec<Recipe>, AllocError>
-    ensures { IfOk result (λ list. list.items ≡ recipes kept.now) }
+pub(crate) fn recipes_of(
+    alloc: Global,
+    kept: &IndexMap<Set, Recipe>,
+) -> Result<Vec<Recipe>, AllocError>
+    ensures { IfOk result (λ list. list.items ≡ recipes kept.now.entries) }
 {
-    kept.iter().map(|each| each.from).collect(alloc)
+    kept.values().copied().collect(alloc)
 }

@@ -1,12 +1,10 @@
 //! Inclusion of types, decided by the sets of automaton states that forests can have.
 #![tactic(auto)]
 
-mod index;
 mod kept;
 mod part;
 mod profiles;
 mod search;
-mod set;
 mod trees;
 
 pub use profiles::Profiles;

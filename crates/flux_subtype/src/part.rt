@@ -4,8 +4,7 @@ ghost use Rattle.std.specs.Option.{option_map};
 ghost use Rattle.flux_auto.specs.Takes.{has};
 ghost use Rattle.flux_subtype.specs.Part.{Leads, LeadInside, Extends, LeadsInto, AllLeadInto, IsClosed, part_of};
 
-use crate::set::Set;
-use flux_auto::{Auto, Edge};
+use flux_auto::{Arcs, Auto, Edge, Set};
 use std::alloc::{AllocError, Global};
 use std::marker::Model;
 
@@ -97,6 +96,7 @@ impl<'a> Model for Part<'a> {
 }
 
 impl<'a> Part<'a> {
+    ghost use Rattle.flux_auto.specs.Arcs.{IsIndex};
     ghost use Rattle.flux_subtype.specs.Part.{IsPartOf};
 
     // The part that two states lead to.
@@ -137,5 +137,16 @@ impl<'a> Part<'a> {
         } else {
             &[]
         }
+    }
+
+    // The edges of the states, by the trees that they go by.
+    pub(crate) fn arcs(&self, alloc: Global) -> Result<Arcs, AllocError>
+        ensures { IfOk result (IsIndex self.now) }
+    {
+        let mut arcs = Arcs::new(alloc);
+        for state in 0..self.states() {
+            arcs.add_all(state, self.edges(state))?;
+        }
+        Ok(arcs)
     }
 }

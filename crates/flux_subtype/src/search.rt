@@ -1,27 +1,24 @@
 // The search for a forest that one state takes and another doesn't.
-ghost use Rattle.std.specs.Prelude.{◌≡◌, ◌↔◌, ◌<◌, ◌≤◌, ◌+◌, ℕ, length, IfOk, IfSome, IfNone, IsTrue, true, false};
-ghost use Rattle.flux_trees.specs.Hedge.{nil};
-ghost use Rattle.flux_auto.specs.Takes.{has};
-ghost use Rattle.flux_subtype.specs.Going.{IsProfile, LacksEdge};
-ghost use Rattle.flux_subtype.specs.Index.{AreWide, IndexesElements};
+ghost use Rattle.std.specs.Prelude.{◌≡◌, ◌↔◌, ◌<◌, ◌≤◌, ◌+◌, ℕ, length, replicate, IfOk, OnOk, IfSome, IfNone, IsTrue, true, false};
+ghost use Rattle.flux_auto.specs.Takes.{has, profile_nil};
+ghost use Rattle.flux_auto.specs.Arcs.{IsIndex, fired};
+ghost use Rattle.flux_subtype.specs.Going.{LacksEdge};
 ghost use Rattle.flux_subtype.specs.Kept.{set_at, AreKept};
-ghost use Rattle.flux_subtype.specs.Search.{Fires, IsSilent, MovesBy, AreTrees, AnsweredBelow, Puts, Fills, FillsAll, IsDone, LabelsGrow, Turned, IsAgainst, IsFound, IsAnswer, recipe_of};
+ghost use Rattle.flux_subtype.specs.Search.{MovesBy, AreTrees, AnsweredBelow, Puts, Fills, FillsAll, IsDone, LabelsGrow, Turned, IsAgainst, IsFound, IsAnswer, IsUsed, recipe_of};
 
-use crate::index::{Index, Move, index_of};
-use crate::kept::{Kept, keep, recipes_of};
+use crate::kept::{keep, recipes_of, set_at};
 use crate::part::Part;
-use crate::set::Set;
-use crate::trees::{Elements, Head, Tree, add_elements, add_tree};
+use crate::trees::{Head, add_elements, add_tree};
 use flux_atom::{AtomKind, Name};
-use flux_auto::{Auto, Recipe, build};
+use flux_auto::{Arcs, Auto, Leap, Recipe, Set, build, fired};
 use flux_forest::Forest;
+use indexmap::IndexMap;
 use std::alloc::{AllocError, Global};
 use std::ops::Range;
 
 // The profile of the empty forest.
 fn nil_profile(alloc: Global, part: &Part<'_>) -> Result<Set, AllocError>
-    ensures long { IfOk result (λ set. length set ≡ length part.now) }
-    ensures profile { IfOk result (λ set. IsProfile part.now set nil) }
+    ensures { IfOk result (λ set. set ≡ profile_nil part.now) }
 {
     let mut set = Set::none(alloc, part.states() as usize)?;
     for state in 0..part.states() {
@@ -32,32 +29,16 @@ fn nil_profile(alloc: Global, part: &Part<'_>) -> Result<Set, AllocError>
     Ok(set)
 }
 
-// Whether no state takes a tree of these moves before a rest with the profile.
-fn is_silent(moves: &[Move], rest: &Set) -> bool
-    ensures { IsTrue result → IsSilent moves.now rest.now }
+// Whether no state takes a tree that goes by the edges before a rest with the profile.
+fn is_silent(leaps: &[Leap], rest: &Set) -> bool
+    ensures { IsTrue result → (n : ℕ) → fired n leaps.now rest.now ≡ replicate n false }
 {
-    for index in 0..moves.len() {
-        if rest.has(moves[index].to) {
+    for leap in leaps {
+        if rest.has(leap.next) {
             return false;
         }
     }
     true
-}
-
-// The profile of a tree of these moves and a rest with the profile.
-fn fired(alloc: Global, part: &Part<'_>, moves: &[Move], rest: &Set) -> Result<Set, AllocError>
-    requires { AreWide (length part.now) moves.now }
-    ensures long { IfOk result (λ set. length set ≡ length part.now) }
-    ensures fires { IfOk result (λ set. Fires moves.now rest.now set) }
-{
-    let mut set = Set::none(alloc, part.states() as usize)?;
-    for index in 0..moves.len() {
-        let step = &moves[index];
-        if rest.has(step.to) {
-            set.join(&step.from);
-        }
-    }
-    Ok(set)
 }
 
 fn recipe(head: Head, rest: usize) -> Recipe
@@ -69,79 +50,61 @@ fn recipe(head: Head, rest: usize) -> Recipe
     }
 }
 
-// Keeps the profile of a tree and a rest, if some state takes them. Tells its place, or the guess.
+// Keeps the profile of a tree and a rest, if some state takes them.
 fn put(
     alloc: Global,
     part: &Part<'_>,
-    kept: &mut Vec<Kept>,
-    tree: &Tree,
+    kept: &mut IndexMap<Set, Recipe>,
+    head: &Head,
+    leaps: &[Leap],
     rest: usize,
-    guess: usize,
-) -> Result<usize, AllocError>
-    requires kept { AreKept part.now kept.old.items }
-    requires tree { MovesBy part.now kept.old.items tree.now.head tree.now.moves.items }
-    requires wide { AreWide (length part.now) tree.now.moves.items }
-    requires rest { rest < length kept.old.items }
-    ensures { IfOk result (λ _. Puts part.now kept.old.items kept.new.items tree.now.head
-        tree.now.moves.items (set_at kept.old.items rest)) }
+) -> Result<(), AllocError>
+    requires kept { AreKept part.now kept.old.entries }
+    requires tree { MovesBy part.now kept.old.entries head.now leaps.now }
+    requires rest { rest < length kept.old.entries }
+    ensures { OnOk result (Puts part.now kept.old.entries kept.new.entries head.now leaps.now
+        (set_at kept.old.entries rest)) }
 {
-    if is_silent(&tree.moves, &kept[rest].set) {
-        return Ok(guess);
+    let behind = set_at(kept, rest);
+    if is_silent(leaps, behind) {
+        return Ok(());
     }
-    let set = fired(alloc, part, &tree.moves, &kept[rest].set)?;
-    let place = keep(kept, set, recipe(tree.head, rest), guess)?;
-    Ok(place)
+    let set = fired(alloc, part.states() as usize, leaps, behind)?;
+    keep(kept, set, recipe(*head, rest))?;
+    Ok(())
 }
 
-// Keeps the profiles of a tree before each of a range of profiles, and tells the last one's place.
+// Keeps the profiles of a tree before each of a range of profiles.
 fn fill(
     alloc: Global,
     part: &Part<'_>,
-    kept: &mut Vec<Kept>,
-    tree: &Tree,
+    kept: &mut IndexMap<Set, Recipe>,
+    head: &Head,
+    leaps: &[Leap],
     rests: Range<usize>,
-    guess: usize,
-) -> Result<usize, AllocError>
-    requires kept { AreKept part.now kept.old.items }
-    requires tree { MovesBy part.now kept.old.items tree.now.head tree.now.moves.items }
-    requires wide { AreWide (length part.now) tree.now.moves.items }
+) -> Result<(), AllocError>
+    requires kept { AreKept part.now kept.old.entries }
+    requires tree { MovesBy part.now kept.old.entries head.now leaps.now }
     requires from { rests.start ≤ rests.end }
-    requires to { rests.end ≤ length kept.old.items }
-    ensures { IfOk result
-        (λ _. Fills part.now kept.old.items kept.new.items tree.now.head tree.now.moves.items
+    requires to { rests.end ≤ length kept.old.entries }
+    ensures { OnOk result (Fills part.now kept.old.entries kept.new.entries head.now leaps.now
         rests.start rests.end) }
 {
-    let mut place = guess;
     for rest in rests.start..rests.end {
-        place = put(alloc, part, kept, tree, rest, place)?;
-    }
-    Ok(place)
-}
-
-// What the search has found: profiles, trees, and where the profile of each tree was put last.
-#[derive(Drop)]
-struct Found {
-    kept: Vec<Kept>,
-    trees: Vec<Tree>,
-    lasts: Vec<usize>,
-}
-
-// The place where the profile of a tree was put last.
-fn last_of(lasts: &[usize], index: usize) -> usize {
-    lasts.get(index).copied().unwrap_or(0)
-}
-
-fn set_last(lasts: &mut Vec<usize>, index: usize, place: usize) -> Result<(), AllocError> {
-    if index < lasts.len() {
-        lasts[index] = place;
-    } else {
-        lasts.push(place)?;
+        put(alloc, part, kept, head, leaps, rest)?;
     }
     Ok(())
 }
 
+// What the search has found: profiles, each with a recipe, and trees, each by its edges.
+#[derive(Drop)]
+struct Found {
+    kept: IndexMap<Set, Recipe>,
+    trees: IndexMap<Vec<Leap>, Head>,
+}
+
 // Keeps the profiles of each tree before each profile up to one, where those of the trees that were
-// there before and of earlier profiles are kept. Of each tree it notes where its profile is.
+// there before and of earlier profiles are kept.
 fn fill_all(
     alloc: Global,
     part: &Part<'_>,
@@ -149,21 +112,22 @@ fn fill_all(
     before: usize,
     done: usize,
 ) -> Result<(), AllocError>
-    requires kept { AreKept part.now found.old.kept.items }
-    requires trees { AreTrees part.now found.old.kept.items found.old.trees.items }
-    requires done { done < length found.old.kept.items }
-    requires answered { AnsweredBelow found.old.kept.items found.old.trees.items before done }
-    ensures trees { IfOk result (λ _. found.new.trees.items ≡ found.old.trees.items) }
-    ensures fills { IfOk result
-        (λ _. FillsAll part.now found.old.kept.items found.new.kept.items found.old.trees.items done
-        (length found.old.trees.items)) }
+    requires kept { AreKept part.now found.old.kept.entries }
+    requires trees { AreTrees part.now found.old.kept.entries found.old.trees.entries }
+    requires done { done < length found.old.kept.entries }
+    requires answered { AnsweredBelow part.now found.old.kept.entries found.old.trees.entries before done }
+    ensures trees { OnOk result (found.new.trees.entries ≡ found.old.trees.entries) }
+    ensures fills { OnOk result
+        (FillsAll part.now found.old.kept.entries found.new.kept.entries found.old.trees.entries
+        done (length found.old.trees.entries)) }
 {
+    prove!(done < found.kept.len());
     for index in 0..found.trees.len() {
         let from = if index < before { done } else { 0 };
-        let guess = last_of(&found.lasts, index);
-        let tree = &found.trees[index];
-        let last = fill(alloc, part, &mut found.kept, tree, from..done + 1, guess)?;
-        set_last(&mut found.lasts, index, last)?;
+        let Some((leaps, head)) = found.trees.get_index(index) else {
+            unreachable!()
+        };
+        fill(alloc, part, &mut found.kept, head, leaps, from..done + 1)?;
     }
     Ok(())
 }
@@ -172,40 +136,41 @@ fn fill_all(
 fn turn(
     alloc: Global,
     part: &Part<'_>,
-    elements: &Elements<'_>,
+    arcs: &Arcs,
+    other: Name,
     found: &mut Found,
     done: usize,
 ) -> Result<(), AllocError>
-    requires so_far { IsDone part.now found.old.kept.items found.old.trees.items done }
-    requires elements { IndexesElements part.now elements.now.groups.now elements.now.any.now }
-    requires lacks { LacksEdge part.now elements.now.other }
-    requires done { done < length found.old.kept.items }
-    ensures { IfOk result
-        (λ _. Turned part.now elements.now.groups.now elements.now.other found.old.kept.items
-        found.new.kept.items found.old.trees.items found.new.trees.items done) }
+    requires so_far { IsDone part.now found.old.kept.entries found.old.trees.entries done }
+    requires arcs { IsIndex part.now arcs.now }
+    requires lacks { LacksEdge part.now other }
+    requires done { done < length found.old.kept.entries }
+    ensures { OnOk result
+        (Turned part.now other found.old.kept.entries found.new.kept.entries
+        found.old.trees.entries found.new.trees.entries done) }
 {
     let before = found.trees.len();
-    let set = &found.kept[done].set;
-    add_elements(alloc, elements, set, done, &mut found.trees)?;
+    let set = set_at(&found.kept, done);
+    add_elements(alloc, arcs, other, set, done, &mut found.trees)?;
     fill_all(alloc, part, found, before, done)?;
     Ok(())
 }
 
-fn is_against(kept: &Kept, left: u64, right: u64) -> bool
-    ensures { IsTrue result ↔ ((has kept.now.set left ≡ true) × (has kept.now.set right ≡ false)) }
+fn is_against(set: &Set, left: u64, right: u64) -> bool
+    ensures { IsTrue result ↔ ((has set.now left ≡ true) × (has set.now right ≡ false)) }
 {
-    kept.set.has(left) && !kept.set.has(right)
+    set.has(left) && !set.has(right)
 }
 
 // The first profile from an index on that has the left state and lacks the right one.
-fn against(kept: &[Kept], from: usize, left: u64, right: u64) -> Option<usize>
-    requires { from ≤ length kept.now }
-    ensures some { IfSome result (λ i. (i < length kept.now) × IsAgainst kept.now left right i) }
-    ensures none { IfNone result ((i : ℕ) → from ≤ i → i < length kept.now
-        → IsAgainst kept.now left right i → ⊥) }
+fn against(kept: &IndexMap<Set, Recipe>, from: usize, left: u64, right: u64) -> Option<usize>
+    ensures some { IfSome result
+        (λ i. (i < length kept.now.entries) × IsAgainst kept.now.entries left right i) }
+    ensures none { IfNone result ((i : ℕ) → from ≤ i → i < length kept.now.entries
+        → IsAgainst kept.now.entries left right i → ⊥) }
 {
     for index in from..kept.len() {
-        if is_against(&kept[index], left, right) {
+        if is_against(set_at(kept, index), left, right) {
             return Some(index);
         }
     }
@@ -216,18 +181,19 @@ fn against(kept: &[Kept], from: usize, left: u64, right: u64) -> Option<usize>
 fn saturate(
     alloc: Global,
     part: &Part<'_>,
-    elements: &Elements<'_>,
+    arcs: &Arcs,
+    other: Name,
     left: u64,
     right: u64,
     found: &mut Found,
 ) -> Result<Option<usize>, AllocError>
-    requires begun { IsDone part.now found.old.kept.items found.old.trees.items 0 }
-    requires elements { IndexesElements part.now elements.now.groups.now elements.now.any.now }
-    requires lacks { LacksEdge part.now elements.now.other }
-    ensures found { IfOk result (IsFound part.now found.new.kept.items left right) }
+    requires begun { IsDone part.now found.old.kept.entries found.old.trees.entries 0 }
+    requires arcs { IsIndex part.now arcs.now }
+    requires lacks { LacksEdge part.now other }
+    ensures found { IfOk result (IsFound part.now found.new.kept.entries left right) }
     ensures labels { IfOk result
-        (λ _. LabelsGrow elements.now.groups.now elements.now.other found.old.kept.items
-        found.old.trees.items found.new.kept.items found.new.trees.items) }
+        (λ _. LabelsGrow part.now other found.old.kept.entries found.old.trees.entries
+        found.new.kept.entries found.new.trees.entries) }
 {
     let mut done = 0;
     let mut seen = 0;
@@ -236,10 +202,39 @@ fn saturate(
             return Ok(Some(index));
         }
         seen = found.kept.len();
-        turn(alloc, part, elements, found, done)?;
+        turn(alloc, part, arcs, other, found, done)?;
         done += 1;
     }
     Ok(None)
+}
+
+// The trees that are atoms, and the profile of the empty forest.
+fn begin(alloc: Global, part: &Part<'_>, arcs: &Arcs) -> Result<Found, AllocError>
+    requires { IsIndex part.now arcs.now }
+    ensures done { IfOk result (λ found. IsDone part.now found.kept.entries found.trees.entries 0) }
+    ensures bare { IfOk result
+        (λ found. (n : ℕ) → IsUsed found.kept.entries found.trees.entries n → ⊥) }
+{
+    let mut kept = IndexMap::new(alloc);
+    keep(&mut kept, nil_profile(alloc, part)?, Recipe::End)?;
+    let mut trees = IndexMap::new(alloc);
+    let (bool, text, int) = (AtomKind::Bool, AtomKind::Text, AtomKind::Int);
+    add_tree(
+        &mut trees,
+        Head::Atom(bool),
+        arcs.for_kind(bool).to_vec(alloc)?,
+    )?;
+    add_tree(
+        &mut trees,
+        Head::Atom(text),
+        arcs.for_kind(text).to_vec(alloc)?,
+    )?;
+    add_tree(
+        &mut trees,
+        Head::Atom(int),
+        arcs.for_kind(int).to_vec(alloc)?,
+    )?;
+    Ok(Found { kept, trees })
 }
 
 // A forest that the left state takes and the right one doesn't, if there is one.
@@ -256,28 +251,9 @@ pub(crate) fn search(
     ensures { IfOk result (IsAnswer auto.now.states other left right) }
 {
     let part = Part::of(alloc, auto, left, right)?;
-    let Index {
-        bools,
-        texts,
-        numbers,
-        any,
-        groups,
-    } = index_of(alloc, &part)?;
-    let mut found = Found {
-        kept: Vec::new(alloc),
-        trees: Vec::new(alloc),
-        lasts: Vec::new(alloc),
-    };
-    add_tree(&mut found.trees, Head::Atom(AtomKind::Bool), bools)?;
-    add_tree(&mut found.trees, Head::Atom(AtomKind::Text), texts)?;
-    add_tree(&mut found.trees, Head::Atom(AtomKind::Int), numbers)?;
-    keep(&mut found.kept, nil_profile(alloc, &part)?, Recipe::End, 0)?;
-    let elements = Elements {
-        groups: &groups,
-        any: &any,
-        other,
-    };
-    let Some(place) = saturate(alloc, &part, &elements, left, right, &mut found)? else {
+    let arcs = part.arcs(alloc)?;
+    let mut found = begin(alloc, &part, &arcs)?;
+    let Some(place) = saturate(alloc, &part, &arcs, other, left, right, &mut found)? else {
         return Ok(None);
     };
     let recipes = recipes_of(alloc, &found.kept)?;

@@ -1,12 +1,11 @@
-use Rattle.std.proofs.Common.{◌∙◌, subst, sym, arith}
-use Rattle.flux_subtype.specs.Going.{Has}
-use Rattle.flux_subtype.proofs.Items.{has-last}
-use Rattle.flux_subtype.proofs.Turning.{edges_at}
-use Rattle.flux_subtype.proofs.PartLaws.{follows-begin, follows-next, edges_inside}
+use Rattle.std.proofs.Common.{subst, sym, arith}
+use Rattle.flux_auto.specs.Arcs.{Has}
+use Rattle.flux_auto.proofs.Items.{has-last}
+use Rattle.flux_subtype.proofs.PartLaws.{edges_at, follows-begin, follows-next, edges_inside}
 use Rattle.flux_subtype.proofs.part.reached.Goals as goal
 
 pub loop-state-init : goal.loop-state-init
-loop-state-init c = follows-begin _ _ _ _ _ _ _ _ _ (c.in_ok-used.ensures.long ∙ c.states.ensures.count) c.in_ok-used.ensures.none c.new-pending.ensures.items c.in_ok-reach.ensures.extends c.in_ok-reach.ensures.there c.in_ok-reach-2.ensures.extends c.in_ok-reach-2.ensures.there
+loop-state-init c = follows-begin _ _ _ _ _ _ _ _ _ _ c.in_ok-used.ensures c.states.ensures.count c.new-pending.ensures.items c.in_ok-reach.ensures.extends c.in_ok-reach.ensures.there c.in_ok-reach-2.ensures.extends c.in_ok-reach-2.ensures.there
 
 pub edges-requires : goal.edges-requires
 edges-requires c = c.loop-state.invariant.inside c.in-Some.state (subst (λ l. Has l c.in-Some.state) (sym c.in-Some.ensures.items) (has-last _ c.in-Some.state))

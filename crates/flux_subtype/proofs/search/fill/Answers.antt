@@ -16,9 +16,9 @@ pub put-requires-clause-rest : goal.put-requires-clause-rest
 put-requires-clause-rest c = within-grows _ _ _ c.loop-rest.invariant.grows (omega arith)
 
 pub loop-rest-preserved : goal.loop-rest-preserved
-loop-rest-preserved c = next_fill _ _ _ _ _ _ _ _ c.loop-rest.invariant (omega arith) c.in_ok-place.ensures
+loop-rest-preserved c = next_fill _ _ _ _ _ _ _ _ c.loop-rest.invariant (omega arith) c.in_ok-put.ensures
 
 pub returns : goal.returns
 returns c =
     let e : c.loop-rest.rest ≡ c.args.rests.end = omega (arith, c.loop-rest.auto.rest-end) in
-    subst (λ j. Fills c.args.part.now c.args.kept.now.items c.loop-rest.kept.items c.args.tree.now.head c.args.tree.now.moves.items c.args.rests.start j) e c.loop-rest.invariant
+    subst (λ j. Fills c.args.part.now c.args.kept.now.entries c.loop-rest.kept.entries c.args.head.now c.args.leaps.now c.args.rests.start j) e c.loop-rest.invariant

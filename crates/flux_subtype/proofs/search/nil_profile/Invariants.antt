@@ -1,5 +1,6 @@
-use Rattle.flux_subtype.proofs.Turning.{EndsBelow}
+use Rattle.std.proofs.Common.{◌≡◌}
+use Rattle.flux_auto.proofs.ArcLaws.{ends_below}
 use Rattle.flux_subtype.proofs.search.nil_profile.Given as goal
 
 abbrev pub invariant-loop-state : goal.invariant-loop-state
-invariant-loop-state l = EndsBelow l.part l.set l.state
+invariant-loop-state l = l.set ≡ ends_below l.part l.state

@@ -1,19 +1,15 @@
-use Rattle.std.proofs.Common.{◌≡◌, length, inl, inr, arith}
+use Rattle.std.proofs.Common.{inl, inr, arith}
 use Rattle.flux_subtype.proofs.Items.{grows-length}
-use Rattle.flux_subtype.proofs.Many.{few_kept}
 use Rattle.flux_subtype.proofs.Searching.{next_seen, answered_none}
 use Rattle.flux_subtype.proofs.search.saturate.Goals as goal
-
-pub loop-done-smaller : goal.loop-done-smaller
-loop-done-smaller c = omega (arith, few_kept c.args.part.now c.loop-done.found.kept.items c.loop-done.invariant.so_far.kept)
 
 pub loop-done-preserved : goal.loop-done-preserved
 loop-done-preserved c = record {
   so_far = c.in_ok-turn.ensures.done;
   labels = λ n h. elim (c.in_ok-turn.ensures.labels n h) [ inl o ↦ c.loop-done.invariant.labels n o | inr x ↦ inr x ];
   behind = omega arith;
-  there = (let le = grows-length c.loop-done.found.kept.items c.turn.new.found.kept.items c.in_ok-turn.ensures.grows in omega (arith, le, c.len-seen.ensures));
-  none = next_seen c.loop-done.found.kept.items c.deref.result.now c.turn.new.found.kept.items c.args.left c.args.right c.loop-done.seen c.len-seen.result c.deref.ensures.value (let e : c.len-seen.result ≡ length c.loop-done.found.kept.items = omega (arith, c.len-seen.ensures, c.loop-done.found.kept.ok) in e) c.in_ok-turn.ensures.grows c.loop-done.invariant.none c.in_default.ensures.none;
+  there = (let le = grows-length c.loop-done.found.kept.entries c.turn.new.found.kept.entries c.in_ok-turn.ensures.grows in omega (arith, le, c.len-seen.ensures.len));
+  none = next_seen c.loop-done.found.kept.entries c.turn.new.found.kept.entries c.args.left c.args.right c.loop-done.seen c.len-seen.result c.len-seen.ensures.len c.in_ok-turn.ensures.grows c.loop-done.invariant.none c.in_default.ensures.none;
 }
 
 pub returns-clause-found : goal.returns-clause-found
