@@ -1,6 +1,7 @@
 -- The statements of the core language, after FLUX, and the procedures that they call.
-use Rattle.std.specs.Prelude.{ℕ, List, Option, slice_get}
+use Rattle.std.specs.Prelude.{ℕ, List, [], ◌∷◌, Option, slice_get}
 use Rattle.flux_schema.specs.Ty.{Ty}
+use Rattle.flux_schema.specs.Definitions.{Definitions}
 use Rattle.flux_calculus.specs.declared.ask.Test.{Test}
 use Rattle.flux_calculus.specs.declared.ask.Var.{Var}
 use Rattle.flux_calculus.specs.declared.ask.Span.{Span}
@@ -34,6 +35,11 @@ pub data Core : Type 0 where
   -- the procedure with this index, with the values of queries for its parameters
   call : (at : Span) (p : ℕ) (args : List Query) → Core
 
+-- statements one behind the other, with the span of them all
+abbrev pub in_order : Span → List Core → Core
+in_order at [] = nothing at
+in_order at (s ∷ ss) = both at s (in_order at ss)
+
 -- a procedure: its name, its parameters with their types, the type of the focuses that it is
 -- declared at, the type of its results and where that is declared, what it does
 pub record Proc : Type 0 where
@@ -50,3 +56,17 @@ Procs = List Proc
 -- the procedure with an index, if there is one
 abbrev pub proc_of : Procs → ℕ → Option Proc
 proc_of procs p = slice_get procs p
+
+-- a type that a script declares for its results, and where it does
+pub record Declared : Type 0 where
+  pub ty : Ty
+  pub at : ℕ
+
+-- a script in the core language: what its names of types stand for, its procedures, the type of its
+-- documents, the type that it declares for its results, if there is one, and its main statement
+pub record Normal : Type 0 where
+  pub defs : Definitions
+  pub procs : Procs
+  pub input : Ty
+  pub declared : Option Declared
+  pub main : Core

@@ -5,3 +5,5 @@ pub mod Work
 pub mod Walking
 pub mod TurnLaws
 pub mod WalkLabels
+pub mod Variants
+pub mod ScriptLaws

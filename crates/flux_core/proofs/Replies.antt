@@ -1,5 +1,5 @@
 -- Answers that are passed on, and conclusions.
-use Rattle.std.proofs.Common.{◌≡◌, ℕ, Bool, true, false, ◌&&◌, arith, [], Some, Result, Ok, Err, IsErrAnd, refl, subst, sym, if◌then◌else◌}
+use Rattle.std.proofs.Common.{◌≡◌, ℕ, Bool, true, false, ◌&&◌, arith, Some, Result, Ok, Err, IsErrAnd, refl, subst, sym, if◌then◌else◌}
 use Rattle.std.proofs.lemmas.Bool.{lt-ltb}
 use Rattle.flux_trees.specs.Draft.{Draft}
 use Rattle.flux_schema.specs.Ty.{Ty, size, height, IsWithinLimits}

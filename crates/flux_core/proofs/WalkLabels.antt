@@ -7,7 +7,7 @@ use Rattle.flux_types.specs.declared.ty.Ty.{Ty as Tree}
 use Rattle.flux_types.specs.Read.{ty_of}
 use Rattle.flux_core.specs.declared.walk.Turn.{Turn}
 use Rattle.flux_core.specs.declared.walk.Turn.TheVariants.{At, Over}
-use Rattle.flux_core.specs.Walk.{Frame, first_of_seq, second_of_seq, first_of_alt, second_of_alt, inside_star, Position, before, behind, Turns, Concludes, Goes, into_seq, into_alt, into_star, to_body, past_empty, to_second, out_of, Walks, stays, goes_on, IsTurn}
+use Rattle.flux_core.specs.Walk.{Frame, first_of_seq, second_of_seq, first_of_alt, second_of_alt, inside_star, Position, before, behind, Turns, Goes, into_seq, into_alt, into_star, to_body, past_empty, to_second, out_of, Walks, stays, goes_on, IsTurn}
 
 module _ (P : ℕ → Type 0) where
   -- it holds of those of the parts that are still to come

@@ -4,3 +4,7 @@ pub mod Faults
 pub mod Answers
 pub mod Map
 pub mod Walk
+pub mod Statements
+pub mod WellFormed
+pub mod OneProof
+pub mod Normals

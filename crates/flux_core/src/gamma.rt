@@ -6,19 +6,12 @@ ghost use Rattle.flux_calculus.specs.Query.{found};
 ghost use Rattle.flux_types.specs.Read.{ty_of};
 ghost use Rattle.flux_core.specs.Contexts.{context_of};
 
-use crate::Measured;
 use crate::binding::{Binding, counted, shared};
+use crate::{Measured, Param};
 use flux_calculus::Var;
 use flux_types::Ty;
 use std::alloc::{AllocError, Global};
 use std::marker::Model;
-
-/// A variable and its type.
-#[derive(Debug, Drop)]
-pub struct Param {
-    pub var: Var,
-    pub ty: Ty,
-}
 
 /// Variables, each with a type. Contracts see them as pairs, the last bound first.
 #[derive(Drop)]

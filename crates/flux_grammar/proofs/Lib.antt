@@ -11,3 +11,13 @@ pub mod Finishing
 pub mod Located
 pub mod Final
 pub mod OnePiece
+pub mod NameLists
+pub mod NamesInTrees
+pub mod NamesRead
+pub mod NamesOfTypes
+pub mod NamesOfQueries
+pub mod NamesOfStatements
+pub mod NamesOfForm
+pub mod OneForm
+pub mod NamesOfPieces
+pub mod NormalLabels

@@ -7,3 +7,11 @@ pub mod Grammar
 pub mod Machine
 pub mod Readings
 pub mod TypeOf
+pub mod NormalQueries
+pub mod NormalStatements
+pub mod NormalForm
+pub mod Nesting
+pub mod NormalFaults
+pub mod Names
+pub mod NormalNames
+pub mod OneNormalForm

@@ -39,7 +39,7 @@ expr_span_step (Expr-F.Elem n q at) = at
 abbrev pub expr_span : Expr → Span
 expr_span = fold-Expr Span expr_span_step
 
-abbrev pub stmt_span_step : Stmt-F Span → Span
+abbrev pub stmt_span_step : {A : Type 0} → Stmt-F A → Span
 stmt_span_step (Stmt-F.Update p s at) = at
 stmt_span_step (Stmt-F.If q s r at) = at
 stmt_span_step (Stmt-F.Let x q s at) = at

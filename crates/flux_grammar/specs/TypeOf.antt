@@ -1,4 +1,4 @@
--- The type that a written type stands for, over definitions that names of types name.
+-- The type that a written type stands for, where definitions have names.
 use Rattle.std.specs.Prelude.{ℕ, ◌==◌, List, [], ◌∷◌, Option, Some, None}
 use Rattle.std.specs.List.{position}
 use Rattle.std.specs.Option.{option_map}
@@ -11,9 +11,9 @@ use Rattle.flux_grammar.specs.declared.tree.TypeText.TheFolds.{fold-TypeText}
 use Rattle.flux_schema.specs.Definitions.{Definitions, names_of}
 use Rattle.flux_schema.specs.Ty.{Ty, empty, atom, element, any_element, seq, alt, star, named}
 
--- the type that a name names, if there is one
-abbrev pub named_by : Definitions → ℕ → Option Ty
-named_by defs n = option_map named (position (λ m. m == n) (names_of defs))
+-- the type that a name names, if a definition has that name
+abbrev pub named_by : List ℕ → ℕ → Option Ty
+named_by names n = option_map named (position (λ m. m == n) names)
 
 -- `t+` is `t,t*`, `t?` is `t|()`
 abbrev pub repeated : Ty → Repetition → Ty
@@ -42,16 +42,19 @@ abbrev pub inside : Option (Option Ty) → Option Ty
 inside None = Some empty
 inside (Some t) = t
 
-abbrev pub type_step : Definitions → TypeText-F (Option Ty) → Option Ty
-type_step defs (TypeText-F.Alt ts at) = nested alt ts
-type_step defs (TypeText-F.Seq ts at) = nested seq ts
-type_step defs (TypeText-F.Marked t ms at) = option_map (λ u. under_marks u ms) t
-type_step defs (TypeText-F.Group t at) = inside t
-type_step defs (TypeText-F.Elem n t at) = option_map (element n) (inside t)
-type_step defs (TypeText-F.AnyElem t at) = option_map any_element (inside t)
-type_step defs (TypeText-F.Kind k at) = Some (atom k)
-type_step defs (TypeText-F.Named n at) = named_by defs n
+abbrev pub type_step : List ℕ → TypeText-F (Option Ty) → Option Ty
+type_step names (TypeText-F.Alt ts at) = nested alt ts
+type_step names (TypeText-F.Seq ts at) = nested seq ts
+type_step names (TypeText-F.Marked t ms at) = option_map (λ u. under_marks u ms) t
+type_step names (TypeText-F.Group t at) = inside t
+type_step names (TypeText-F.Elem n t at) = option_map (element n) (inside t)
+type_step names (TypeText-F.AnyElem t at) = option_map any_element (inside t)
+type_step names (TypeText-F.Kind k at) = Some (atom k)
+type_step names (TypeText-F.Named n at) = named_by names n
 
--- none where a name names no definition
+-- none where a name in it is none of these names
+abbrev pub type_in : List ℕ → TypeText → Option Ty
+type_in names = fold-TypeText (Option Ty) (type_step names)
+
 abbrev pub type_of : Definitions → TypeText → Option Ty
-type_of defs = fold-TypeText (Option Ty) (type_step defs)
+type_of defs = type_in (names_of defs)

@@ -1,6 +1,14 @@
 // The laws of the definitions. Each function here does nothing: its contract is the law.
 ghost use Rattle.flux_grammar.specs.Grammar.{type, expr, script};
 ghost use Rattle.flux_grammar.specs.Lexemes.{PiecesAreUnique};
+ghost use Rattle.flux_grammar.specs.Names.{
+  TypeTextNames,
+  ExprNames,
+  ScriptNames,
+  NamesAreOfPieces,
+};
+ghost use Rattle.flux_grammar.specs.NormalNames.{NormalFormKeepsNames};
+ghost use Rattle.flux_grammar.specs.OneNormalForm.{NormalFormIsUnique};
 ghost use Rattle.flux_grammar.specs.Readings.{ReadingIsUnique, PrefixesFit, ReadingsFit};
 ghost use Rattle.flux_grammar.specs.Tokens.{TokensAreUnique};
 
@@ -34,4 +42,22 @@ pub fn readings_fit()
     ensures scripts { ReadingsFit script }
     ensures types { ReadingsFit (type 0) }
     ensures queries { ReadingsFit (expr 0) }
+{}
+
+/// What holds of each name of the pieces of a text holds of each name of the tree that they read
+/// as.
+pub fn names_are_of_pieces()
+    ensures scripts { NamesAreOfPieces script ScriptNames }
+    ensures types { NamesAreOfPieces (type 0) TypeTextNames }
+    ensures queries { NamesAreOfPieces (expr 0) ExprNames }
+{}
+
+/// What holds of each name of a script holds of each name of its normal form.
+pub fn normal_form_keeps_names()
+    ensures { NormalFormKeepsNames }
+{}
+
+/// A script has one normal form at most.
+pub fn normal_form_is_unique()
+    ensures { NormalFormIsUnique }
 {}

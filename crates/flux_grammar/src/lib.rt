@@ -8,7 +8,8 @@ mod token;
 mod tree;
 
 pub use laws::{
-    pieces_are_unique, prefixes_fit, readings_are_unique, readings_fit, tokens_are_unique,
+    names_are_of_pieces, normal_form_is_unique, normal_form_keeps_names, pieces_are_unique,
+    prefixes_fit, readings_are_unique, readings_fit, tokens_are_unique,
 };
 pub use lexeme::{Keyword, Lexeme, Piece, Sign, Soft};
 pub use token::{Token, TokenKind};

@@ -1,16 +1,11 @@
 -- The query of the calculus that a Rust query spells.
-use Rattle.std.specs.Prelude.{List, [], ◌∷◌, map}
+use Rattle.std.specs.Prelude.{List, map}
 use Rattle.flux_calculus.specs.declared.ask.Span.{Span}
 use Rattle.flux_calculus.specs.Query as calculus
-use Rattle.flux_calculus.specs.Query.{nothing, both, element, literal, variable, binding, choice, alike, less, child, filter, each}
+use Rattle.flux_calculus.specs.Query.{listed, element, literal, variable, binding, choice, alike, less, child, filter, each}
 use Rattle.flux_query.specs.declared.query.Query.{Query}
 use Rattle.flux_query.specs.declared.query.Query.TheOpen.{Query-F}
 use Rattle.flux_query.specs.declared.query.Query.TheFolds.{fold-Query}
-
--- queries one behind the other, with the span of them all
-abbrev pub listed : Span → List calculus.Query → calculus.Query
-listed at [] = nothing at
-listed at (q ∷ qs) = both at q (listed at qs)
 
 -- each variant as the form of the same meaning, with its span
 abbrev pub query_step : Query-F calculus.Query → calculus.Query

@@ -24,7 +24,7 @@ first_at (m ∷ ms) (suc i) n at only =
     (first_at ms i n at (λ j e. omega (arith, only (suc j) e)))
 
 -- a definition is the one that its name names
-pub named_here : (defs : Definitions) → Differ (names_of defs) → (x : ℕ) (d : Definition) → slice_get defs x ≡ Some d → named_by defs d.name ≡ Some (named x)
+pub named_here : (defs : Definitions) → Differ (names_of defs) → (x : ℕ) (d : Definition) → slice_get defs x ≡ Some d → named_by (names_of defs) d.name ≡ Some (named x)
 named_here defs apart x d at =
     let there : slice_get (names_of defs) x ≡ Some d.name = slice_get-map (λ (e : Definition). e.name) defs x ∙ ap (option_map (λ (e : Definition). e.name)) at in
     let first : before d.name (names_of defs) ≡ x = first_at (names_of defs) x d.name there (λ j e. apart j x d.name e there) in

@@ -1,5 +1,6 @@
 use Rattle.std.proofs.Common.{refl, inl, inr}
-use Rattle.flux_querytype.proofs.Queries.{place_of_concat, place_of_other, of_elem, of_lit, of_var, of_let, of_if, of_same, of_less, of_child, of_filter, of_for}
+use Rattle.flux_querytype.proofs.Queries.{place_of_concat, place_of_other}
+use Rattle.flux_query.proofs.Variants.{of_elem, of_lit, of_var, of_let, of_if, of_same, of_less, of_child, of_filter, of_for}
 use Rattle.flux_querytype.proofs.leaf.place.Goals as goal
 
 pub returns : goal.returns

@@ -7,7 +7,7 @@ use Rattle.flux_query.specs.Read.{query_of}
 use Rattle.flux_querytype.proofs.Left.{left_by_both, left_scope}
 use Rattle.flux_querytype.proofs.Weights.{weight_pos, weight_last, weight_inside, weights_below}
 use Rattle.flux_querytype.proofs.Known.{Scope, typed_usable, ready_bound, ready_same, usable_same, usable_owned, usable_under, context_same, lacks_same}
-use Rattle.flux_querytype.proofs.Queries.{of_concat, of_lit, of_let, of_same, of_less}
+use Rattle.flux_query.proofs.Variants.{of_concat, of_lit, of_let, of_same, of_less}
 use Rattle.flux_querytype.proofs.Lacking.{lacks_listed, lacks_last, lacks_inside}
 use Rattle.flux_core.proofs.WalkLabels.{turn_labels, labels_at, labels_before}
 use Rattle.flux_querytype.proofs.MapLaws.{Treated, mapped, answer_mapped, waiting_as}
