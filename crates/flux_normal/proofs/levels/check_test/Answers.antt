@@ -1,0 +1,8 @@
+use Rattle.std.proofs.Common.{sym, subst}
+use Rattle.flux_grammar.specs.Nesting.{core_level}
+use Rattle.flux_grammar.specs.NormalStatements.{tested}
+use Rattle.flux_normal.specs.Levels.{Finds}
+use Rattle.flux_normal.proofs.levels.check_test.Goals as goal
+
+pub returns-in-None : goal.returns-in-None
+returns-in-None c = λ s o found. subst (λ t. Finds core_level (tested c.args.at t s) c.args.levels o) (sym c.in-None.is) found

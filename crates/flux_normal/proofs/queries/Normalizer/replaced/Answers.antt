@@ -1,0 +1,12 @@
+use Rattle.std.proofs.Common.{[], ◌∷◌, map}
+use Rattle.flux_calculus.specs.Core.{in_order, delete, insert}
+use Rattle.flux_core.specs.Statements.{core_of}
+use Rattle.flux_grammar.specs.NormalQueries.{of_one, query_form}
+use Rattle.flux_normal.specs.Layers.{layer_of}
+use Rattle.flux_normal.proofs.LayerLaws.{path_made}
+use Rattle.flux_normal.proofs.queries.Normalizer.replaced.Goals as goal
+
+pub returns : goal.returns
+returns c =
+    let at = c.args.span in
+    path_made c.args.path.now (of_one (λ q. in_order at (delete at ∷ insert at q ∷ [])) (query_form c.args.expr.now)) c.args.self.now.made c.layers.new.self.made c.written_over.new.self.made (map layer_of c.in_ok-layers.layers) (core_of c.in_ok-core.core) c.under_layers.result c.in_ok-layers.ensures c.in_ok-core.ensures c.under_layers.ensures

@@ -1,0 +1,11 @@
+pub mod Faults
+pub mod Levels
+pub mod Together
+pub mod Heads
+pub mod Procedures
+pub mod Calls
+pub mod Layers
+pub mod Written
+pub mod Types
+pub mod Headers
+pub mod Bodies
