@@ -38,16 +38,17 @@ step_taken all n m i behind from a b s lt is count past step so e found =
     let p = so e found in
     let cut = split all i s lt is in
     let here : n - length (drop i all) ≡ m - 1 = omega (arith, length-drop i all, past, count, lt) in
-    let after : m ≡ n - length (drop (i + 1) all) = omega (arith, length-drop (i + 1) all, past, count, lt) in
-    (step_on p.0 s,
+    let after : m ≡ n - length (drop (i + 1) all) = omega (arith, length-drop (i + 1) all, past, count, lt) in (
+      step_on p.0 s,
       subst (λ m. Finds query_level (step_on p.0 s) m b) after (step p.0 (subst (λ m. Finds query_level p.0 m a) here p.1)),
-      λ k. ap (λ ss. steps_on p.0 ss k) (sym cut) ∙ p.2 k)
+      λ k. ap (λ ss. steps_on p.0 ss k) (sym cut) ∙ p.2 k,
+    )
 
 pub steps_end : (all : List QueryStep) (n i : ℕ) (from a : Option ℕ) → length all ≤ i → StepsSoFar all n from (drop i all) a → (e : Numbered Query) → Finds query_level e (n - length all) from → Finds query_level (steps_on e all) n a
 steps_end all n i from a le so e found =
     let p = so e found in
     λ k. ap (λ q. first (query_level q.0 n)) (sym (p.2 k) ∙ ap (λ ss. steps_on p.0 ss k) (drop_all i all le))
-      ∙ subst (λ m. Finds query_level p.0 m a) (omega (arith, ap length (drop_all i all le))) p.1 k
+    ∙ subst (λ m. Finds query_level p.0 m a) (omega (arith, ap length (drop_all i all le))) p.1 k
 
 -- the steps of a path: what is found in a statement on those that are still to come is found in it
 -- on the path

@@ -74,6 +74,7 @@ module _ (all : List ParamDef) (i : ℕ) (x : ParamDef) (seen : List ℕ) (lt : 
       known : (t : Bool) → not t ≡ false → t ≡ true
       known true g = refl
       known false g = absurd (true≢false g)
+
       here : (t : Bool) → list_any (nat_eq x.var) seen ≡ true → is_among x.var seen ≡ t → first ((if t then x.at.from ∷ [] else []) ++ repeated (x.var ∷ seen) (map mention_of_param (drop (i + 1) all))) ≡ Some x.at.from
       here true g h = refl
       here false g h = absurd (true≢false (sym g ∙ any_flip x.var seen ∙ h))

@@ -32,12 +32,10 @@ pub(crate) fn written(
     procedures: &Procedures,
 ) -> Result<Normal, AllocError>
     requires defs { AllZip (IsDefinitionOf (type_names script.now)) script.now.types defs }
-    requires procs {
-        AllZip (IsHeaderOf (type_names script.now)) script.now.procs headers.procs.items }
+    requires procs { AllZip (IsHeaderOf (type_names script.now)) script.now.procs headers.procs.items }
     requires input { IsMade (type_names script.now)
         (type_in (type_names script.now) script.now.input) (ty_of headers.input) }
-    requires declared {
-        IsDeclaredMade (type_names script.now) script.now.output headers.declared }
+    requires declared { IsDeclaredMade (type_names script.now) script.now.output headers.declared }
     requires procedures { procedures.now ≡ map head_written script.now.procs }
     requires fit { All (Fits procedures.now) (all_calls script.now) }
     ensures { IfOk result (λ normal. IsNormalForm script.now (normal_of normal)) }

@@ -77,11 +77,7 @@ fn read_output(
     }
 }
 
-fn read_procs(
-    alloc: Global,
-    procs: &[ProcDef],
-    known: &Draft,
-) -> Result<Vec<Header>, AllocError>
+fn read_procs(alloc: Global, procs: &[ProcDef], known: &Draft) -> Result<Vec<Header>, AllocError>
     requires { AreFine (declared_names known.now) (flat_map written_in procs.now) }
     ensures { IfOk result (λ headers.
         AllZip (IsHeaderOf (declared_names known.now)) procs.now headers.items) }
@@ -109,7 +105,11 @@ fn read_proc(alloc: Global, proc: &ProcDef, known: &Draft) -> Result<Header, All
     })
 }
 
-fn read_params(alloc: Global, params: &[ParamDef], known: &Draft) -> Result<Items<Param>, AllocError>
+fn read_params(
+    alloc: Global,
+    params: &[ParamDef],
+    known: &Draft,
+) -> Result<Items<Param>, AllocError>
     requires { AreFine (declared_names known.now) (map (λ q. q.ty) params.now) }
     ensures { IfOk result (λ made.
         AllZip (IsParamMade (declared_names known.now)) params.now made) }

@@ -78,11 +78,7 @@ impl Procedures {
 }
 
 // Adds a procedure whose name none of them has.
-fn add(
-    alloc: Global,
-    parameters: &mut IndexMap<u32, u32>,
-    proc: &ProcDef,
-) -> Result<(), NormFault>
+fn add(alloc: Global, parameters: &mut IndexMap<u32, u32>, proc: &ProcDef) -> Result<(), NormFault>
     ensures ok { OnOk result
         (parameters.new.entries ≡ parameters.old.entries ++ head_written proc.now ∷ []) }
     ensures differ { OnOk result

@@ -19,11 +19,11 @@ body-requires c = subst (λ ss. All (Fits c.args.procedures.now) (flat_map calls
 pub new-requires : goal.new-requires
 new-requires c =
     well_formed c.args.script.now c.args.procedures.now c.args.defs (procs_of c.in_ok-procs.procs) (ty_of c.args.headers.input) c.args.headers.declared (core_of c.in_ok-main.main)
-        c.requires.procedures c.requires.defs c.in_ok-procs.ensures.written c.requires.input c.requires.declared c.as_kept-kept.ensures.kept c.in_ok-main.ensures.fit
+    c.requires.procedures c.requires.defs c.in_ok-procs.ensures.written c.requires.input c.requires.declared c.as_kept-kept.ensures.kept c.in_ok-main.ensures.fit
 
 pub returns : goal.returns
 returns c =
     subst (IsNormalForm c.args.script.now) (sym c.new.ensures)
     (is_normal c.args.script.now c.args.procedures.now c.args.defs (procs_of c.in_ok-procs.procs) (ty_of c.args.headers.input) c.args.headers.declared (core_of c.in_ok-main.main)
-        c.requires.procedures c.requires.defs c.in_ok-procs.ensures.written c.requires.input c.requires.declared _ _ c.in_ok-procs.ensures.bodies
-        (ap (λ ss. stmts_form (names_in c.args.procedures.now) ss c.written_procs.new.normalizer.made) (sym c.as_slice.ensures) ∙ c.in_ok-main.ensures.form))
+    c.requires.procedures c.requires.defs c.in_ok-procs.ensures.written c.requires.input c.requires.declared _ _ c.in_ok-procs.ensures.bodies
+    (ap (λ ss. stmts_form (names_in c.args.procedures.now) ss c.written_procs.new.normalizer.made) (sym c.as_slice.ensures) ∙ c.in_ok-main.ensures.form))

@@ -32,8 +32,8 @@ loop-header-preserved c =
           (c.with_body.ensures.written (type_names c.args.script.now) c.index-procs-index.result c.args.procedures.now p.0 c.in_ok-body.ensures.fit) c.in_ok-push.ensures.ok c.loop-header.invariant.written;
       numbered =
           turn (λ (p : ProcDef). stmts_form (names_in c.args.procedures.now) p.body) (λ (p : calculus.Proc). p.body) c.as_slice-procs.result.now c.loop-header.index c.index-procs-index.result (procedure_of c.with_body.result) (procs_of c.loop-header.written) (procs_of c.push.new.self) c.loop-header.normalizer.made c.body.new.self.made within c.index-procs-index.is
-              (ap (λ ss. stmts_form (names_in c.args.procedures.now) ss c.loop-header.normalizer.made) (sym (c.as_slice.ensures ∙ ap (λ (p : ProcDef). p.body) (sym c.index-procs-index.is))) ∙ c.in_ok-body.ensures.form ∙ ap (λ s. (s, c.body.new.self.made)) (sym c.with_body.ensures.body))
-              c.in_ok-push.ensures.ok
+          (ap (λ ss. stmts_form (names_in c.args.procedures.now) ss c.loop-header.normalizer.made) (sym (c.as_slice.ensures ∙ ap (λ (p : ProcDef). p.body) (sym c.index-procs-index.is))) ∙ c.in_ok-body.ensures.form ∙ ap (λ s. (s, c.body.new.self.made)) (sym c.with_body.ensures.body))
+          c.in_ok-push.ensures.ok
           ∙ c.loop-header.invariant.numbered;
       counted = ap length c.in_ok-push.ensures.ok ∙ length-append (procs_of c.loop-header.written) (procedure_of c.with_body.result ∷ []) ∙ ap (λ n. n + 1) c.loop-header.invariant.counted;
     }

@@ -8,14 +8,14 @@ pub check_statement-returns-in-Ok : goal.check_statement-returns-in-Ok
 check_statement-returns-in-Ok t c =
     ap (λ cs. first (misfits c.args.procedures.now cs)) (ap calls c.in-If.is ∙ calls_if _ c.in-If.yes c.in-If.no _)
     ∙ later c.args.procedures.now (calls c.in-If.yes) (calls c.in-If.no) _
-        (ap (λ s. first (misfits c.args.procedures.now (calls s))) (sym c.get.ensures) ∙ c.in-Ok.ensures)
-        (ap (λ s. first (misfits c.args.procedures.now (calls s))) (sym c.get-in-Ok.ensures) ∙ c.check_statement-in-Ok.ensures)
+    (ap (λ s. first (misfits c.args.procedures.now (calls s))) (sym c.get.ensures) ∙ c.in-Ok.ensures)
+    (ap (λ s. first (misfits c.args.procedures.now (calls s))) (sym c.get-in-Ok.ensures) ∙ c.check_statement-in-Ok.ensures)
 
 pub check_statement-returns-in-Err : goal.check_statement-returns-in-Err
 check_statement-returns-in-Err t c =
     ap (λ cs. first (misfits c.args.procedures.now cs)) (ap calls c.in-If.is ∙ calls_if _ c.in-If.yes c.in-If.no _)
     ∙ sooner c.args.procedures.now (calls c.in-If.yes) (calls c.in-If.no) c.in-Err.misfit
-        (ap (λ s. first (misfits c.args.procedures.now (calls s))) (sym c.get.ensures) ∙ c.in-Err.ensures)
+    (ap (λ s. first (misfits c.args.procedures.now (calls s))) (sym c.get.ensures) ∙ c.in-Err.ensures)
 
 pub check_statement-returns-in-Block : goal.check_statement-returns-in-Block
 check_statement-returns-in-Block t c =

@@ -11,8 +11,8 @@ returns-in-Ok c =
     let script = c.args.script.now in
     ap first (in_script script.procs script.body heads c.requires)
     ∙ later heads (flat_map calls (flat_map (λ (p : ProcDef). p.body) script.procs)) (flat_map calls script.body) _
-        (ap (λ ps. first (misfits_in heads (flat_map (λ (p : ProcDef). p.body) ps))) (sym c.as_slice.ensures) ∙ c.in-Ok.ensures)
-        (ap (λ ss. first (misfits_in heads ss)) (sym c.as_slice-in-Ok.ensures) ∙ c.check_statements.ensures)
+    (ap (λ ps. first (misfits_in heads (flat_map (λ (p : ProcDef). p.body) ps))) (sym c.as_slice.ensures) ∙ c.in-Ok.ensures)
+    (ap (λ ss. first (misfits_in heads ss)) (sym c.as_slice-in-Ok.ensures) ∙ c.check_statements.ensures)
 
 pub returns-in-Err : goal.returns-in-Err
 returns-in-Err c =
@@ -20,4 +20,4 @@ returns-in-Err c =
     let script = c.args.script.now in
     ap first (in_script script.procs script.body heads c.requires)
     ∙ sooner heads (flat_map calls (flat_map (λ (p : ProcDef). p.body) script.procs)) (flat_map calls script.body) c.in-Err.misfit
-        (ap (λ ps. first (misfits_in heads (flat_map (λ (p : ProcDef). p.body) ps))) (sym c.as_slice.ensures) ∙ c.in-Err.ensures)
+    (ap (λ ps. first (misfits_in heads (flat_map (λ (p : ProcDef). p.body) ps))) (sym c.as_slice.ensures) ∙ c.in-Err.ensures)

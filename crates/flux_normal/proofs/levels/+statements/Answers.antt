@@ -23,33 +23,33 @@ check_each-returns t c = λ procs.
 pub check_statement-returns-in-Update : goal.check_statement-returns-in-Update
 check_statement-returns-in-Update t c = λ procs.
     on_a_path (stmt_form procs c.args.stmt.now) c.in-Update.path (stmt_form procs c.in-Update.body) c.args.levels _ c.check_path-path.result _ _
-        (ap (stmt_form procs) c.in-Update.is ∙ of_update procs c.in-Update.path c.in-Update.body _)
-        c.check_path-path.ensures c.inner.ensures c.within.ensures
-        (subst (λ s. Finds core_level (stmt_form procs s) c.inner.result (told c.check_statement-body.result)) c.get.ensures (c.check_statement-body.ensures procs))
+    (ap (stmt_form procs) c.in-Update.is ∙ of_update procs c.in-Update.path c.in-Update.body _)
+    c.check_path-path.ensures c.inner.ensures c.within.ensures
+    (subst (λ s. Finds core_level (stmt_form procs s) c.inner.result (told c.check_statement-body.result)) c.get.ensures (c.check_statement-body.ensures procs))
 
 pub check_statement-returns-in-DeleteFrom : goal.check_statement-returns-in-DeleteFrom
 check_statement-returns-in-DeleteFrom t c = λ procs.
     let at = c.in-DeleteFrom.span in
     on_a_path (stmt_form procs c.args.stmt.now) c.in-DeleteFrom.path (plain (children at (delete at))) c.args.levels _ c.check_path-path-in-DeleteFrom.result _ _
-        (ap (stmt_form procs) c.in-DeleteFrom.is ∙ of_delete_from procs c.in-DeleteFrom.path at)
-        c.check_path-path-in-DeleteFrom.ensures c.inner-left.ensures c.within-in-DeleteFrom.ensures
-        (in_node at.from _ _ (plain (delete at)) _ _ c.node-in-DeleteFrom.ensures c.saturating_sub.ensures (λ k. c.leaf-deleted.ensures))
+    (ap (stmt_form procs) c.in-DeleteFrom.is ∙ of_delete_from procs c.in-DeleteFrom.path at)
+    c.check_path-path-in-DeleteFrom.ensures c.inner-left.ensures c.within-in-DeleteFrom.ensures
+    (in_node at.from _ _ (plain (delete at)) _ _ c.node-in-DeleteFrom.ensures c.saturating_sub.ensures (λ k. c.leaf-deleted.ensures))
 
 pub check_statement-returns-in-Replace : goal.check_statement-returns-in-Replace
 check_statement-returns-in-Replace t c = λ procs.
     let at = c.in-Replace.span in
     on_a_path (stmt_form procs c.args.stmt.now) c.in-Replace.path (of_one (λ q. in_order at (delete at ∷ insert at q ∷ [])) (query_form c.in-Replace.value)) c.args.levels _ c.check_path-path-in-Replace.result _ _
-        (ap (stmt_form procs) c.in-Replace.is ∙ of_replace procs c.in-Replace.path c.in-Replace.value at)
-        c.check_path-path-in-Replace.ensures c.inner-in-Replace.ensures c.within-in-Replace.ensures c.check_replace-replaced.ensures
+    (ap (stmt_form procs) c.in-Replace.is ∙ of_replace procs c.in-Replace.path c.in-Replace.value at)
+    c.check_path-path-in-Replace.ensures c.inner-in-Replace.ensures c.within-in-Replace.ensures c.check_replace-replaced.ensures
 
 pub check_statement-returns-in-ReplaceIn : goal.check_statement-returns-in-ReplaceIn
 check_statement-returns-in-ReplaceIn t c = λ procs.
     let at = c.in-ReplaceIn.span in
     let replaced : Numbered Core = of_one (λ q. in_order at (delete at ∷ insert at q ∷ [])) (query_form c.in-ReplaceIn.value) in
     on_a_path (stmt_form procs c.args.stmt.now) c.in-ReplaceIn.path (of_one (children at) replaced) c.args.levels _ c.check_path-path-in-ReplaceIn.result _ _
-        (ap (stmt_form procs) c.in-ReplaceIn.is ∙ of_replace_in procs c.in-ReplaceIn.path c.in-ReplaceIn.value at)
-        c.check_path-path-in-ReplaceIn.ensures c.inner-left-in-ReplaceIn.ensures c.within-in-ReplaceIn.ensures
-        (in_node at.from _ _ replaced _ _ c.node-in-ReplaceIn.ensures c.saturating_sub-in-ReplaceIn.ensures c.check_replace-replaced-in-ReplaceIn.ensures)
+    (ap (stmt_form procs) c.in-ReplaceIn.is ∙ of_replace_in procs c.in-ReplaceIn.path c.in-ReplaceIn.value at)
+    c.check_path-path-in-ReplaceIn.ensures c.inner-left-in-ReplaceIn.ensures c.within-in-ReplaceIn.ensures
+    (in_node at.from _ _ replaced _ _ c.node-in-ReplaceIn.ensures c.saturating_sub-in-ReplaceIn.ensures c.check_replace-replaced-in-ReplaceIn.ensures)
 
 pub check_statement-returns-in-Delete : goal.check_statement-returns-in-Delete
 check_statement-returns-in-Delete t c = elim c.in-Delete.is [
@@ -94,12 +94,12 @@ check_statement-returns-in-If t c = λ procs k.
     let j = (stmt_form procs c.in-If.yes i).1 in
     ap (λ s. first (core_level (s k).0 c.args.levels)) (ap (stmt_form procs) c.in-If.is ∙ of_if procs c.in-If.condition c.in-If.yes c.in-If.no c.in-If.span)
     ∙ c.node.ensures (λ n. query_level (query_form c.in-If.condition k).0 n ++ core_level (stmt_form procs c.in-If.yes i).0 n ++ core_level (stmt_form procs c.in-If.no j).0 n)
-        (joined _ _ _ _
-            (joined _ _ _ _ (subst (λ m. Finds query_level (query_form c.in-If.condition) m (told c.check_query-condition.result)) below c.check_query-condition.ensures k)
-                (of_part core_level (stmt_form procs) c.in-If.yes _ _ _ _ c.get-in-If.ensures below (c.check_statement-yes.ensures procs) i)
-            ∙ sym c.both.ensures)
-            (of_part core_level (stmt_form procs) c.in-If.no _ _ _ _ c.get-in-If-2.ensures below (c.check_statement-no.ensures procs) j)
-        ∙ sym c.both-in-If.ensures)
+    (joined _ _ _ _
+    (joined _ _ _ _ (subst (λ m. Finds query_level (query_form c.in-If.condition) m (told c.check_query-condition.result)) below c.check_query-condition.ensures k)
+    (of_part core_level (stmt_form procs) c.in-If.yes _ _ _ _ c.get-in-If.ensures below (c.check_statement-yes.ensures procs) i)
+    ∙ sym c.both.ensures)
+    (of_part core_level (stmt_form procs) c.in-If.no _ _ _ _ c.get-in-If-2.ensures below (c.check_statement-no.ensures procs) j)
+    ∙ sym c.both-in-If.ensures)
 
 pub check_statement-returns-in-Block : goal.check_statement-returns-in-Block
 check_statement-returns-in-Block t c = λ procs k.
@@ -114,17 +114,17 @@ check_statement-returns-in-Let t c =
           let i = (query_form c.in-Let.query k).1 in
           ap (λ s. first (core_level (s k).0 c.args.levels)) (ap (stmt_form procs) p.1 ∙ of_let procs p.0 c.in-Let.query c.in-Let.body c.in-Let.span)
           ∙ c.node-in-Let.ensures (λ n. query_level (query_form c.in-Let.query k).0 n ++ core_level (stmt_form procs c.in-Let.body i).0 n)
-              (joined _ _ _ _ (subst (λ m. Finds query_level (query_form c.in-Let.query) m (told c.check_query-query.result)) below c.check_query-query.ensures k)
-                  (of_part core_level (stmt_form procs) c.in-Let.body _ _ _ _ c.get-in-Let.ensures below (c.check_statement-body-in-Let.ensures procs) i)
-              ∙ sym c.both-in-Let.ensures)
+          (joined _ _ _ _ (subst (λ m. Finds query_level (query_form c.in-Let.query) m (told c.check_query-query.result)) below c.check_query-query.ensures k)
+          (of_part core_level (stmt_form procs) c.in-Let.body _ _ _ _ c.get-in-Let.ensures below (c.check_statement-body-in-Let.ensures procs) i)
+          ∙ sym c.both-in-Let.ensures)
       | inr e ↦ λ procs k.
           let i = (stmt_form procs c.in-Let.body k).1 in
           ap (λ s. first (core_level (s k).0 c.args.levels)) (ap (stmt_form procs) e ∙ of_guarded procs c.in-Let.body c.in-Let.query c.in-Let.span)
           ∙ c.node-in-Let.ensures (λ n. query_level (query_form c.in-Let.query i).0 n ++ core_level (stmt_form procs c.in-Let.body k).0 n ++ core_level (skip c.in-Let.span) n)
-              (with_skip (query_level (query_form c.in-Let.query i).0 (c.args.levels - 1)) (stmt_form procs c.in-Let.body k).0 c.in-Let.span (c.args.levels - 1) _ _
-                  (subst (λ m. Finds query_level (query_form c.in-Let.query) m (told c.check_query-query.result)) below c.check_query-query.ensures i)
-                  (of_part core_level (stmt_form procs) c.in-Let.body _ _ _ _ c.get-in-Let.ensures below (c.check_statement-body-in-Let.ensures procs) k)
-              ∙ sym c.both-in-Let.ensures)
+          (with_skip (query_level (query_form c.in-Let.query i).0 (c.args.levels - 1)) (stmt_form procs c.in-Let.body k).0 c.in-Let.span (c.args.levels - 1) _ _
+          (subst (λ m. Finds query_level (query_form c.in-Let.query) m (told c.check_query-query.result)) below c.check_query-query.ensures i)
+          (of_part core_level (stmt_form procs) c.in-Let.body _ _ _ _ c.get-in-Let.ensures below (c.check_statement-body-in-Let.ensures procs) k)
+          ∙ sym c.both-in-Let.ensures)
     ]
 
 pub check_statements-returns-in-len1 : goal.check_statements-returns-in-len1

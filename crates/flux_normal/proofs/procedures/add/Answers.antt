@@ -11,10 +11,10 @@ returns-then-contains_key-clause-fault c =
 pub returns-in-Err-clause-fault : goal.returns-in-Err-clause-fault
 returns-in-Err-clause-fault c =
     still_first _ _ c.in-Err.fault
-        (λ place found.
-            ap first (not_before c.args.proc.now.name c.number-name.result c.args.parameters.now.entries c.args.proc.now.at.from c.contains_key.result c.number-name.ensures c.contains_key.ensures c.if-contains_key.false _)
-            ∙ ap (λ ps. first (repeated [] (map mention_of_param ps))) (sym c.as_slice.ensures) ∙ found)
-        c.in-Err.ensures.fault
+    (λ place found.
+    ap first (not_before c.args.proc.now.name c.number-name.result c.args.parameters.now.entries c.args.proc.now.at.from c.contains_key.result c.number-name.ensures c.contains_key.ensures c.if-contains_key.false _)
+    ∙ ap (λ ps. first (repeated [] (map mention_of_param ps))) (sym c.as_slice.ensures) ∙ found)
+    c.in-Err.ensures.fault
 
 pub returns-clause-differ : goal.returns-clause-differ
 returns-clause-differ c =
