@@ -2,6 +2,7 @@
 use Rattle.std.proofs.Common.{◌≡◌, ◌+◌, ◌==◌, ℕ, suc, Bool, true, false, not, cond, List, [], ◌∷◌, ◌++◌, length, map, Option, Some, None, Result, Ok, Err, IfOk, refl, sym, ap, subst, ◌∙◌, find, flat_map, arith}
 use Rattle.std.specs.List.{All, AllByRecursion}
 use Rattle.std.specs.Option.{IsSomeAnd}
+use Rattle.std.proofs.lemmas.List.{length-map}
 use Rattle.std.proofs.lemmas.Option.{none-some, same_Some}
 use Rattle.std.proofs.lemmas.List.Elements.{All-from_recursion, recursion_from_All}
 use Rattle.flux_calculus.specs.declared.ask.Span.{Span}
@@ -52,10 +53,6 @@ of_all_length : {A : Type 0} (xs : List (Numbered A)) (k : ℕ) → length (of_a
 of_all_length [] k = refl
 of_all_length (x ∷ xs) k = ap (λ n. suc n) (of_all_length xs (x k).1)
 
-mapped_length : {X Y : Type 0} (f : X → Y) (xs : List X) → length (map f xs) ≡ length xs
-mapped_length f [] = refl
-mapped_length f (x ∷ xs) = ap (λ n. suc n) (mapped_length f xs)
-
 module _ (heads : List Head) where
   abbrev names : List ℕ
   names = names_in heads
@@ -67,7 +64,7 @@ module _ (heads : List Head) where
   call_fits : (at : Span) (n : ℕ) (es : List Expr) (k : ℕ) → find (has_name n) heads ≡ Some (n, length es) → AllFit heads (calculus.call at (index_of names n) (of_all (map query_form es) k).0)
   call_fits at n es k fits procs same =
       let a = length (of_all (map query_form es) k).0 in
-      let many : length es ≡ a = sym (of_all_length (map query_form es) k ∙ mapped_length query_form es) in
+      let many : length es ≡ a = sym (of_all_length (map query_form es) k ∙ length-map es query_form) in
       subst (λ hs. find (has_name n) hs ≡ Some (n, a) → IsSomeAnd (proc_of procs (index_of (names_in hs) n)) (λ p. a ≡ length p.params)) same (place_fits procs n a) (fits ∙ ap (λ m. Some (n, m)) many)
 
   filtered_fits : (at : Span) (f : Option Expr) (s : Numbered calculus.Core) → Good s → Good (filtered at f s)

@@ -4,9 +4,7 @@ use Rattle.std.specs.List.{AllZip}
 use Rattle.std.proofs.lemmas.List.{drop_all}
 use Rattle.flux_grammar.specs.declared.tree.TypeText.{TypeText}
 use Rattle.flux_normal.specs.Types.{IsFine, AreFine}
-
-split : {X : Type 0} (all : List X) (i : ℕ) (x : X) → i < length all → x ≡ get_or all i x → drop i all ≡ x ∷ drop (i + 1) all
-split all i x lt is = drop-cons all i x lt ∙ ap₂ (λ y n. y ∷ drop n all) (sym is) (sym (add-one i))
+use Rattle.flux_normal.proofs.PathLaws.{split}
 
 -- a list that is made is as it should be, once what is still to come is
 module _ {A B : Type 0} (R : A → B → Type 0) (all : List A) where

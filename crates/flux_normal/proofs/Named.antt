@@ -2,7 +2,7 @@
 use Rattle.std.proofs.Common.{◌≡◌, ◌≢◌, ◌==◌, ◌⊎◌, inl, inr, ℕ, zero, suc, ◌<◌, ◌↔◌, ◌||◌, Bool, true, false, cond, eqb, ltb, List, [], ◌∷◌, length, get_or, Option, Some, None, refl, sym, ap, ◌∙◌, arith}
 use Rattle.std.specs.List.{position, slice_get, list_any, filter_map, cons_option}
 use Rattle.std.specs.Option.{option_map}
-use Rattle.std.proofs.lemmas.Bool.{eq-eqb, lt-ltb, false≢true}
+use Rattle.std.proofs.lemmas.Bool.{eq-eqb, lt-ltb, false≢true, or_right}
 use Rattle.std.proofs.lemmas.Bool.Decides.{eqb_tells}
 use Rattle.std.proofs.lemmas.List.Sums.{position_or_len_is}
 use Rattle.std.proofs.lemmas.Option.{slice_get-get_or, slice_get_within, get_or_from_slice_get}
@@ -14,14 +14,10 @@ use Rattle.flux_schema.specs.Ty.{Ty, named}
 abbrev pub Locates : List ℕ → ℕ → Option ℕ → Type 0
 Locates names n r = (x : ℕ) → (r ≡ Some x) ↔ (slice_get names x ≡ Some n)
 
-or_true : (a b : Bool) → b ≡ true → (a || b) ≡ true
-or_true true b e = refl
-or_true false b e = e
-
 pub among_at : (names : List ℕ) (x n : ℕ) → slice_get names x ≡ Some n → is_among n names ≡ true
 among_at [] x n e = absurd (cc)
 among_at (m ∷ ms) zero n e = ap (λ b. b || is_among n ms) (eq-eqb m n (cc))
-among_at (m ∷ ms) (suc x) n e = or_true (eqb m n) (is_among n ms) (among_at ms x n e)
+among_at (m ∷ ms) (suc x) n e = or_right (eqb m n) (is_among n ms) (among_at ms x n e)
 
 not_here : (m n : ℕ) → ((eqb m n ≡ true) × (m ≡ n)) ⊎ ((eqb m n ≡ false) × (m ≢ n)) → (m ≡ n → ⊥) → eqb m n ≡ false
 not_here m n (inl h) f = absurd (f h.1)

@@ -13,13 +13,10 @@ use Rattle.flux_normal.specs.Types.{mention_of, IsRepeated, IsCyclic}
 use Rattle.flux_normal.specs.declared.fault.NormFault.{NormFault}
 use Rattle.flux_normal.specs.declared.fault.NormFault.TheVariants.{Duplicate, UnknownType, BigType, Unguarded, UnknownProc, Arity, TooNested, Memory}
 use Rattle.flux_normal.proofs.CallLaws.{heads_found}
-
-sooner : (xs ys : List ℕ) (place : ℕ) → first xs ≡ Some place → first (xs ++ ys) ≡ Some place
-sooner [] ys place e = absurd cc
-sooner (x ∷ xs) ys place e = e
+use Rattle.flux_normal.proofs.Firsts.{first_before}
 
 pub type_again : (s : Script) (f : NormFault) → IsRepeated s.types f → IsNormFault s f
-type_again s (Duplicate place) r = sooner (repeated [] (map mention_of s.types)) (repeated_procs [] s.procs) place r
+type_again s (Duplicate place) r = first_before (repeated [] (map mention_of s.types)) (repeated_procs [] s.procs) place r
 type_again s (UnknownType place) r = absurd r
 type_again s (BigType place) r = absurd r
 type_again s (Unguarded place) r = absurd r
@@ -50,11 +47,6 @@ cyclic s (UnknownProc place) within r = absurd r
 cyclic s (Arity place) within r = absurd r
 cyclic s (TooNested place) within r = absurd r
 cyclic s (Memory error) within r = tt
-
--- a list without a first is empty
-pub none_first : {A : Type 0} (xs : List A) → first xs ≡ None → xs ≡ []
-none_first [] e = refl
-none_first (x ∷ xs) e = absurd cc
 
 named : (n : ℕ) (hs : List Head) (h : Head) → find (has_name n) hs ≡ Some h → (h.0 == n) ≡ true
 named n [] h e = absurd cc

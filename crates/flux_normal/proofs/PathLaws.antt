@@ -18,7 +18,8 @@ use Rattle.flux_grammar.specs.NormalStatements.{filtered, on_step, on_steps, on_
 use Rattle.flux_normal.specs.Levels.{either, Finds, Leaves, levels_left, found_round, behind_step}
 use Rattle.flux_normal.proofs.LevelLaws.{joined}
 
-split : {X : Type 0} (all : List X) (i : ℕ) (x : X) → i < length all → x ≡ get_or all i x → drop i all ≡ x ∷ drop (i + 1) all
+-- what is left of a list begins with the part that is next
+pub split : {X : Type 0} (all : List X) (i : ℕ) (x : X) → i < length all → x ≡ get_or all i x → drop i all ≡ x ∷ drop (i + 1) all
 split all i x lt is = drop-cons all i x lt ∙ ap₂ (λ y n. y ∷ drop n all) (sym is) (sym (add-one i))
 
 -- the steps behind a query: those that are still to come stand behind one of which is told what

@@ -12,6 +12,7 @@ use Rattle.flux_normal.specs.Heads.{Head, has_name}
 use Rattle.flux_normal.specs.Procedures.{head_written, mention_of_param, IsRepeat}
 use Rattle.flux_normal.specs.declared.fault.NormFault.{NormFault}
 use Rattle.flux_normal.specs.declared.fault.NormFault.TheVariants.{Duplicate, UnknownType, BigType, Unguarded, UnknownProc, Arity, TooNested, Memory}
+use Rattle.flux_normal.proofs.Firsts.{first_before}
 
 flip : (a b : ℕ) → (a == b) ≡ (b == a)
 flip a b = go (a == b) (b == a) refl refl
@@ -111,17 +112,13 @@ module _ (all : List ProcDef) (i : ℕ) (x : ProcDef) (heads after : List Head) 
       ∙ same_procs (x.name ∷ names) (names ++ x.name ∷ []) (drop (i + 1) all) (put_last names x.name)
       ∙ ap (λ ks. repeated_procs ks (drop (i + 1) all)) (sym (ap (map (λ h. h.0)) grown ∙ map-append (λ (h : Head). h.0) heads (head_written x ∷ [])))
 
-sooner : (xs ys : List ℕ) (place : ℕ) → first xs ≡ Some place → first (xs ++ ys) ≡ Some place
-sooner [] ys place e = absurd cc
-sooner (x ∷ xs) ys place e = e
-
 pub proc_again : (all : List ProcDef) (i : ℕ) (x : ProcDef) (heads : List Head) (place : ℕ) → i < length all → x ≡ get_or all i x
     → first (again (map (λ h. h.0) heads) (x.name, x.at.from) ++ repeated [] (map mention_of_param x.params)) ≡ Some place
     → repeated_procs [] all ≡ repeated_procs (map (λ h. h.0) heads) (drop i all) → first (repeated_procs [] all) ≡ Some place
 proc_again all i x heads place lt is found so =
     let names = map (λ (h : Head). h.0) heads in
     ap first (so ∙ ap (repeated_procs names) (drop-cons all i x lt ∙ ap₂ (λ y n. y ∷ drop n all) (sym is) (sym (add-one i))))
-    ∙ sooner (again names (x.name, x.at.from) ++ repeated [] (map mention_of_param x.params)) (repeated_procs (x.name ∷ names) (drop (i + 1) all)) place found
+    ∙ first_before (again names (x.name, x.at.from) ++ repeated [] (map mention_of_param x.params)) (repeated_procs (x.name ∷ names) (drop (i + 1) all)) place found
 
 -- a fault that is the first of these places is the first of those
 pub still_first : (ps qs : List ℕ) (f : NormFault) → ((place : ℕ) → first ps ≡ Some place → first qs ≡ Some place) → IsRepeat ps f → IsRepeat qs f
