@@ -1,0 +1,1 @@
+INPUT lib[book[title[string],author[string]+,price[string]?]*] DO SKIP
