@@ -13,3 +13,7 @@ mod Fitting
 mod Learning
 mod Piecing
 mod TypesBack
+mod Listing
+mod Texts
+mod Amounts
+pub mod KnownNames

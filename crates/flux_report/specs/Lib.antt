@@ -1,3 +1,4 @@
 pub mod Positions
 pub mod Lines
 pub mod ReadsBack
+pub mod CoreText

@@ -2,7 +2,7 @@
 ghost use Rattle.std.specs.Prelude.{◌-◌, ◌^◌, ◌<◌, length};
 ghost use Rattle.flux_report.specs.Lines.{IsShown};
 
-use crate::{LexFault, ScriptFault, SynFault, script_line};
+use crate::{LexFault, NormFault, ScriptFault, SynFault, script_line};
 use flux_atom::Names;
 use std::alloc::{AllocError, Global};
 use std::process::Abort;
@@ -17,13 +17,16 @@ fn line(alloc: Global, script: &[u8], fault: &ScriptFault) -> Result<Vec<u8>, Al
     Ok(line)
 }
 
-// The lines of both faults that have a place, one behind the other.
+// The lines of faults that have a place, one of each kind, one behind the other.
 fn lines(rt: &impl Abort, alloc: Global, script: &str, place: u32) -> Result<Vec<u8>, AllocError> {
     let script = script.as_bytes();
     assert!(rt; place as usize <= script.len());
     assert!(rt; script.len() < 100);
     let mut lines = line(alloc, script, &ScriptFault::Lex(LexFault::Bad { place }))?;
     let other = line(alloc, script, &ScriptFault::Syn(SynFault::Syntax { place }))?;
+    lines.extend_from_slice(&other)?;
+    let unguarded = ScriptFault::Norm(NormFault::Unguarded { place });
+    let other = line(alloc, script, &unguarded)?;
     lines.extend_from_slice(&other)?;
     Ok(lines)
 }
@@ -45,7 +48,9 @@ fn shows_faults(rt: HostRuntime) -> Result<(), Fail> {
         ("012345678901", 11, "1:12"),
     ] {
         let lines = lines(&rt, alloc, script, place)?;
-        let wanted = format!(in alloc; "script:{position}: Bad\nscript:{position}: Syntax\n")?;
+        let wanted = format!(in alloc;
+            "script:{position}: Bad\nscript:{position}: Syntax\nscript:{position}: Unguarded\n"
+        )?;
         assert_eq!(rt;
             lines.as_slice(),
             wanted.as_bytes(),

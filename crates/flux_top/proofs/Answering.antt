@@ -5,11 +5,13 @@ use Rattle.flux_io.specs.Outside.{Held, file}
 use Rattle.flux_top.specs.Words.{form}
 use Rattle.flux_top.specs.Lines.{status_of, line_of}
 use Rattle.flux_top.specs.Script.{IsScriptFault, DeletesPath}
-use Rattle.flux_top.proofs.Scripts.{no_fault, deletes_or_none}
+use Rattle.flux_top.proofs.Scripts.{deletes_or_none}
+use Rattle.flux_top.proofs.Asked.{no_form, one_kind, asks_path, faulty_asks, script_there, document_there}
+use Rattle.flux_top.proofs.Unique.{answer_one}
 use Rattle.flux_report.specs.declared.line.ScriptFault.{ScriptFault}
 use Rattle.flux_report.specs.declared.line.ScriptFault.TheVariants.{TooLong}
 use Rattle.flux_doctext.specs.Spells.{Spells}
-use Rattle.flux_top.specs.Answer.{NamesScript, NamesDocument, AsksDeletion, Answer, Lacking, usage, faulty_script, other_script, long_document, no_forest, done, no_script, no_document}
+use Rattle.flux_top.specs.Answer.{NamesScript, NamesDocument, AsksDeletion, Answer, Lacking, usage, faulty_script, core_script, other_script, long_document, no_forest, done, no_script, no_document}
 use Rattle.flux_top.specs.Clauses.{Answers, IsStatus, IsComplete, IsOutput, Appends, Shows}
 use Rattle.flux_top.specs.Prepare.{IsEarlyRefusal}
 use Rattle.flux_top.specs.declared.status.Status.{Status}
@@ -17,79 +19,28 @@ use Rattle.flux_top.specs.declared.status.Status.TheVariants.{Done, ReadFault, M
 use Rattle.flux_top.specs.declared.refusal.Refusal.{Refusal}
 use Rattle.flux_top.specs.declared.refusal.Refusal.TheVariants.{WrongWords, LongScript, FaultyScript, OtherScript, LongDocument, NoForest, NoRead, NoWrite, NoMemory}
 
-some_same : (X : Type 0) (x y : X) → Some x ≡ Some y → x ≡ y
-some_same X x y e = cc
-
 module _ (held : Held) (words : List (List ℕ)) where
-  same_names : (a b c d : List ℕ) → form words ≡ Some (a, b) → form words ≡ Some (c, d) → (a ≡ c) × (b ≡ d)
-  same_names a b c d e f =
-      let pair = some_same (List ℕ × List ℕ) (a, b) (c, d) (sym e ∙ f) in
-      (ap (λ (p : List ℕ × List ℕ). p.0) pair, ap (λ (p : List ℕ × List ℕ). p.1) pair)
-
-  pub no_form : (a b : List ℕ) → form words ≡ Some (a, b) → form words ≡ None → ⊥
-  no_form a b e f = let both : Some (a, b) ≡ None = sym e ∙ f in cc
-
-  pub script_one : (s t : List ℕ) → NamesScript held words s → NamesScript held words t → s ≡ t
-  script_one s t a b =
-      let names = same_names _ _ _ _ a.form_is b.form_is in
-      let both : Some s ≡ Some t = sym a.is_there ∙ ap (file held) names.0 ∙ b.is_there in
-      cc
-
-  pub document_one : (s t : List ℕ) → NamesDocument held words s → NamesDocument held words t → s ≡ t
-  document_one s t a b =
-      let names = same_names _ _ _ _ a.form_is b.form_is in
-      let both : Some s ≡ Some t = sym a.is_there ∙ ap (file held) names.1 ∙ b.is_there in
-      cc
-
-  pub asks_short : {steps : List (List ℕ)} (s : List ℕ) → AsksDeletion held words steps → NamesScript held words s → length s ≤ 1048576
-  asks_short s asked named = subst (λ t. length t ≤ 1048576) (script_one asked.script s asked.named named) asked.within
-
-  pub asks_path : {steps : List (List ℕ)} (s : List ℕ) → AsksDeletion held words steps → NamesScript held words s → DeletesPath s steps
-  asks_path {steps} s asked named = subst (λ t. DeletesPath t steps) (script_one asked.script s asked.named named) asked.deletes
-
-  -- a script that deletes a path has no fault, and is no other
-  pub faulty_asks : {steps : List (List ℕ)} (s : List ℕ) (fault : ScriptFault) → NamesScript held words s → IsScriptFault s fault → AsksDeletion held words steps → ⊥
-  faulty_asks s fault named is asked =
-      let deletes = asks_path s asked named in
-      no_fault s fault deletes.tree deletes.texts is (asks_short s asked named) deletes.reads
-
-  script_there : {a b : List ℕ} (s : List ℕ) → form words ≡ Some (a, b) → file held a ≡ None → NamesScript held words s → ⊥
-  script_there s is lacks named =
-      let both : Some s ≡ None = sym named.is_there ∙ ap (file held) (same_names _ _ _ _ named.form_is is).0 ∙ lacks in
-      cc
-
-  document_there : {a b : List ℕ} (d : List ℕ) → form words ≡ Some (a, b) → file held b ≡ None → NamesDocument held words d → ⊥
-  document_there d is lacks named =
-      let both : Some d ≡ None = sym named.is_there ∙ ap (file held) (same_names _ _ _ _ named.form_is is).1 ∙ lacks in
-      cc
-
   -- where a file is lacking there is no answer
   pub lacking_answer : {s : Status} {o l : List ℕ} → Answer held words s o l → Lacking held words → ⊥
-  lacking_answer (usage none) (no_script is lacks) = no_form _ _ is none
-  lacking_answer (usage none) (no_document asked is lacks) = no_form _ _ is none
-  lacking_answer (faulty_script fault named wrong) (no_script is lacks) = script_there _ is lacks named
-  lacking_answer (faulty_script {script} fault named wrong) (no_document asked is lacks) = faulty_asks script fault named wrong asked
-  lacking_answer (other_script named short reads none) (no_script is lacks) = script_there _ is lacks named
-  lacking_answer (other_script {script} {tree} {texts} named short reads none) (no_document {steps} asked is lacks) =
-      deletes_or_none script tree texts steps reads none (asks_path script asked named)
-  lacking_answer (long_document asked named long) (no_script is lacks) = script_there _ is lacks asked.named
-  lacking_answer (long_document asked named long) (no_document _ is lacks) = document_there _ is lacks named
-  lacking_answer (no_forest asked named short wrong) (no_script is lacks) = script_there _ is lacks asked.named
-  lacking_answer (no_forest asked named short wrong) (no_document _ is lacks) = document_there _ is lacks named
-  lacking_answer (done path asked named short spelled derived) (no_script is lacks) = script_there _ is lacks asked.named
-  lacking_answer (done path asked named short spelled derived) (no_document _ is lacks) = document_there _ is lacks named
+  lacking_answer (usage none) (no_script is lacks) = no_form held words _ is none
+  lacking_answer (usage none) (no_document asked is lacks) = no_form held words _ is none
+  lacking_answer (faulty_script fault named wrong) (no_script is lacks) = script_there held words _ is lacks named
+  lacking_answer (faulty_script {script = script} fault named wrong) (no_document asked is lacks) = faulty_asks held words script fault named wrong asked
+  lacking_answer (core_script named is_normal) (no_script is lacks) = script_there held words _ is lacks named
+  lacking_answer (core_script named is_normal) (no_document asked is lacks) = one_kind held words _ _ _ named.form_is is
+  lacking_answer (other_script named short reads clear none) (no_script is lacks) = script_there held words _ is lacks named
+  lacking_answer (other_script {script = script} {tree} {texts} named short reads clear none) (no_document {steps} asked is lacks) =
+      deletes_or_none script tree texts steps reads none (asks_path held words script asked named)
+  lacking_answer (long_document asked named long) (no_script is lacks) = script_there held words _ is lacks asked.named
+  lacking_answer (long_document asked named long) (no_document _ is lacks) = document_there held words _ is lacks named
+  lacking_answer (no_forest asked named short wrong) (no_script is lacks) = script_there held words _ is lacks asked.named
+  lacking_answer (no_forest asked named short wrong) (no_document _ is lacks) = document_there held words _ is lacks named
+  lacking_answer (done path asked named short spelled derived) (no_script is lacks) = script_there held words _ is lacks asked.named
+  lacking_answer (done path asked named short spelled derived) (no_document _ is lacks) = document_there held words _ is lacks named
 
   -- where there is something to write, there is no other answer
   pub done_answer : {s : Status} {output o l m : List ℕ} → Answer held words Done output m → Answer held words s o l → s ≡ Done
-  done_answer (done path asked named short spelled derived) (usage none) = absurd (no_form _ _ asked.named.form_is none)
-  done_answer (done path asked named short spelled derived) (faulty_script {script} fault there wrong) = absurd (faulty_asks script fault there wrong asked)
-  done_answer (done path asked named short spelled derived) (other_script {script} {tree} {texts} there within reads none) =
-      absurd (deletes_or_none script tree texts _ reads none (asks_path script asked there))
-  done_answer (done {document} path asked named short spelled derived) (long_document {document = other} _ there long) =
-      absurd (omega (arith, long, short, ap length (document_one document other named there)))
-  done_answer (done {document} {names} path {v} asked named short spelled derived) (no_forest {document = other} _ there within wrong) =
-      absurd (wrong.spells_none names v (subst (λ d. Spells names d v) (document_one document other named there) spelled))
-  done_answer (done path asked named short spelled derived) (done _ _ _ _ _ _) = refl
+  done_answer done_one other = (answer_one held words _ _ _ _ _ _ other done_one).0
 
   -- a refusal before the write has the status of the answer
   pub early_status : (read_rose write_rose : Type 0) (r : Refusal) → IsEarlyRefusal (Some held) words read_rose r → IsStatus held words read_rose write_rose (status_of r)

@@ -1,14 +1,16 @@
 mod Behind
 pub mod Deleted
 mod Labelled
+mod Normals
 pub mod Scripts
+mod Asked
 pub mod Grown
 mod Kept
 mod Lone
 pub mod Preparing
 mod Refused
-pub mod Answering
 pub mod Pruned
-mod Reading
-pub mod Unique
 pub mod Spelled
+pub mod Unique
+pub mod Answering
+mod Reading

@@ -28,11 +28,14 @@ use Rattle.flux_syntax.specs.declared.trees.SynFault.TheVariants.{Syntax, Memory
 use Rattle.flux_syntax.specs.Learnt.{learnt, with_name, written_name}
 use Rattle.flux_syntax.proofs.Standing.{StandsIn, each_stands}
 use Rattle.flux_report.specs.declared.line.ScriptFault.{ScriptFault}
-use Rattle.flux_report.specs.declared.line.ScriptFault.TheVariants.{TooLong, Lex, Syn}
+use Rattle.flux_report.specs.declared.line.ScriptFault.TheVariants.{TooLong, Lex, Syn, Norm}
 use Rattle.flux_report.specs.Lines.{script_text, IsShown}
 use Rattle.flux_top.specs.Script.{script_limit, lone_label, IsScriptOf, HasNoReading, IsScriptFault, IsDeletion, DeletesNone, DeletesPath}
+use Rattle.flux_grammar.specs.NormalFaults.{HasNoFault}
+use Rattle.flux_normal.specs.Faults.{IsNormFault}
 use Rattle.flux_top.proofs.Deleted.{one_deleted}
 use Rattle.flux_top.proofs.Labelled.{deletion_known}
+use Rattle.flux_top.proofs.Normals.{no_norm_fault, norm_line_one}
 
 -- ---- the table of the names that a script writes
 
@@ -144,13 +147,15 @@ module _ (bytes : List ℕ) where
       let pieces = pieces_one is.tokens none.tokens is.reads.0 none.misfit.0 is.are none.are first none.misfit.1 in
       none.misfit.2.unread t (subst (λ l. IsRead script l t) pieces is.reads.2)
 
-  -- a script with a reading has no fault, where it is within the limit
-  pub no_fault : (f : ScriptFault) (t : Script) (texts : List (List ℕ)) → IsScriptFault bytes f → length bytes ≤ script_limit → IsScriptOf bytes t texts → ⊥
-  no_fault TooLong t texts long short is = omega (arith, long, short)
-  no_fault (Lex (Bad place)) t texts (within, fault) short is = fault.0 is.tokens is.are
-  no_fault (Lex (NoRoom error)) t texts fault short is = fault
-  no_fault (Syn (Syntax place)) t texts (within, fault) short is = read_or_not t texts place is fault
-  no_fault (Syn (Memory error)) t texts fault short is = fault
+  -- a script with a normal form has no fault, where it is within the limit
+  pub no_fault : (f : ScriptFault) (t : Script) (texts : List (List ℕ)) → IsScriptFault bytes f → length bytes ≤ script_limit → IsScriptOf bytes t texts → HasNoFault t → ⊥
+  no_fault TooLong t texts long short is none = omega (arith, long, short)
+  no_fault (Lex (Bad place)) t texts (within, fault) short is none = fault.0 is.tokens is.are
+  no_fault (Lex (NoRoom error)) t texts fault short is none = fault
+  no_fault (Syn (Syntax place)) t texts (within, fault) short is none = read_or_not t texts place is fault
+  no_fault (Syn (Memory error)) t texts fault short is none = fault
+  no_fault (Norm g) t texts (shows, within, fault) short is none =
+      no_norm_fault t g shows (subst (λ u. IsNormFault u g) (tree_one fault.tree t fault.texts texts fault.reads is).0 fault.faulty) none
 
   -- the line of its fault is one
   pub fault_line_one : (f g : ScriptFault) → IsScriptFault bytes f → IsScriptFault bytes g → script_text bytes f ≡ script_text bytes g
@@ -165,6 +170,14 @@ module _ (bytes : List ℕ) where
   fault_line_one (Syn (Syntax m)) (Lex (Bad n)) (within, fault) (again, other) = absurd (other.0 fault.tokens fault.are)
   fault_line_one (Syn (Syntax m)) (Syn (Syntax n)) (within, fault) (again, other) =
       ap (λ p. script_text bytes (Syn (Syntax p))) (no_reading_one m n fault other)
+  fault_line_one TooLong (Norm g) long (shows, within, fault) = absurd (omega (arith, long, within))
+  fault_line_one (Norm f) TooLong (shows, within, fault) long = absurd (omega (arith, long, within))
+  fault_line_one (Lex (Bad m)) (Norm g) (within, fault) (shows, again, other) = absurd (fault.0 other.reads.tokens other.reads.are)
+  fault_line_one (Norm f) (Lex (Bad n)) (shows, within, fault) (again, other) = absurd (other.0 fault.reads.tokens fault.reads.are)
+  fault_line_one (Syn (Syntax m)) (Norm g) (within, fault) (shows, again, other) = absurd (read_or_not other.tree other.texts m other.reads fault)
+  fault_line_one (Norm f) (Syn (Syntax n)) (shows, within, fault) (again, other) = absurd (read_or_not fault.tree fault.texts n fault.reads other)
+  fault_line_one (Norm f) (Norm g) (shows, within, fault) (visible, again, other) =
+      norm_line_one other.tree bytes f g shows visible (subst (λ t. IsNormFault t f) (tree_one fault.tree other.tree fault.texts other.texts fault.reads other.reads).0 fault.faulty) other.faulty
   fault_line_one (Lex (NoRoom error)) g fault other = absurd fault
   fault_line_one (Syn (Memory error)) g fault other = absurd fault
   fault_line_one f (Lex (NoRoom error)) fault other = absurd other
@@ -245,3 +258,4 @@ fault_shown bytes (Lex (Bad place)) (within, fault) = fault.1.within
 fault_shown bytes (Lex (NoRoom error)) fault = fault
 fault_shown bytes (Syn (Syntax place)) (within, fault) = misfit_within bytes place fault
 fault_shown bytes (Syn (Memory error)) fault = fault
+fault_shown bytes (Norm f) (shows, within, fault) = shows

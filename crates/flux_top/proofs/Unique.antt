@@ -14,17 +14,23 @@ use Rattle.flux_doctext.specs.Spells.{Spells, IsViable}
 use Rattle.flux_doctext.specs.Documents.{IsNoDocument}
 use Rattle.flux_doctext.proofs.LabelLaws.{spelled_over}
 use Rattle.flux_top.proofs.Spelled.{spelled_alike}
-use Rattle.flux_top.proofs.Scripts.{no_fault, fault_line_one, deletes_or_none, steps_one, steps_some, longest_one}
+use Rattle.flux_top.proofs.Scripts.{no_fault, fault_line_one, tree_one, deletes_or_none, steps_one, steps_some, longest_one}
 use Rattle.flux_calculus.specs.Derives.{Derives}
 use Rattle.flux_top.specs.Paths.{standard, delete_on}
 use Rattle.flux_calculus.proofs.Agree.{derives_one}
+use Rattle.flux_calculus.specs.Core.{Normal}
+use Rattle.flux_grammar.specs.declared.tree.Script.{Script}
+use Rattle.flux_grammar.specs.NormalFaults.{HasNoFault}
+use Rattle.flux_grammar.specs.NormalForm.{IsNormalForm}
+use Rattle.flux_grammar.proofs.OneForm.{one_form}
+use Rattle.flux_report.specs.CoreText.{core_text}
 use Rattle.flux_report.specs.Lines.{script_text}
-use Rattle.flux_top.specs.Script.{script_limit, IsScriptOf, IsScriptFault, DeletesPath}
-use Rattle.flux_top.specs.Answer.{Answer, usage, faulty_script, other_script, long_document, no_forest, no_forest_line, done}
+use Rattle.flux_top.specs.Script.{script_limit, IsScriptOf, IsScriptFault, IsNormalScript, DeletesPath}
+use Rattle.flux_top.specs.Answer.{Answer, usage, faulty_script, core_script, other_script, long_document, no_forest, no_forest_line, done}
 use Rattle.flux_top.specs.Unique.{AnswerIsUnique}
 use Rattle.flux_top.specs.declared.status.Status.{Status}
 use Rattle.flux_top.proofs.Pruned.{pruned_element, pruned, pruned_derives}
-use Rattle.flux_top.proofs.Answering.{no_form, script_one, document_one, asks_path, faulty_asks}
+use Rattle.flux_top.proofs.Asked.{no_form, one_kind, script_one, document_one, asks_path, faulty_asks}
 
 -- only a label of the table has the text of a label
 label_named : (names : List (List ℕ)) (a : ℕ) → IsLabel (name_text names a) → NamesLabel names a
@@ -103,32 +109,47 @@ result_one names others path other script document v v' w w' is are spelled othe
     let results = pruned_alike names others spelled.table other_spelled.table paths forests (spelled_over names document v spelled).labels (spelled_over others document v' other_spelled).labels in
     ap (text names) left ∙ alike_text results ∙ sym (ap (text others) right)
 
+-- so is the text of a script in the core language
+core_one : (script : List ℕ) (t u : Script) (texts others : List (List ℕ)) (n m : Normal) → IsNormalScript script t texts n → IsNormalScript script u others m → core_text texts n ≡ core_text others m
+core_one script t u texts others n m is are =
+    let one = tree_one script t u texts others is.reads are.reads in
+    ap₂ core_text one.1 (one_form u n m (subst (λ s. IsNormalForm s n) one.0 is.form) are.form)
+
 module _ (held : Held) (words : List (List ℕ)) where
   -- how far the run comes before its answer
   abbrev reached : {s : Status} {o l : List ℕ} → Answer held words s o l → ℕ
   reached (usage _) = 0
   reached (faulty_script _ _ _) = 1
-  reached (other_script _ _ _ _) = 2
-  reached (long_document _ _ _) = 3
-  reached (no_forest _ _ _ _) = 4
-  reached (done _ _ _ _ _ _) = 5
+  reached (core_script _ _) = 2
+  reached (other_script _ _ _ _ _) = 3
+  reached (long_document _ _ _) = 4
+  reached (no_forest _ _ _ _) = 5
+  reached (done _ _ _ _ _ _) = 6
 
   -- what ends a run leaves no later answer
   none_later : {s t : Status} {o p l m : List ℕ} (a : Answer held words s o l) (b : Answer held words t p m) → reached a < reached b → ⊥
-  none_later (usage none) (faulty_script _ named _) later = no_form held words _ _ named.form_is none
-  none_later (usage none) (other_script named _ _ _) later = no_form held words _ _ named.form_is none
-  none_later (usage none) (long_document asked _ _) later = no_form held words _ _ asked.named.form_is none
-  none_later (usage none) (no_forest asked _ _ _) later = no_form held words _ _ asked.named.form_is none
-  none_later (usage none) (done _ asked _ _ _ _) later = no_form held words _ _ asked.named.form_is none
-  none_later (faulty_script {script} fault named is) (other_script {script = other} {tree} {texts} again short reads _) later =
+  none_later (usage none) (faulty_script _ named _) later = no_form held words _ named.form_is none
+  none_later (usage none) (core_script named _) later = no_form held words _ named.form_is none
+  none_later (usage none) (other_script named _ _ _ _) later = no_form held words _ named.form_is none
+  none_later (usage none) (long_document asked _ _) later = no_form held words _ asked.named.form_is none
+  none_later (usage none) (no_forest asked _ _ _) later = no_form held words _ asked.named.form_is none
+  none_later (usage none) (done _ asked _ _ _ _) later = no_form held words _ asked.named.form_is none
+  none_later (faulty_script {script = script} fault named is) (core_script {script = other} {tree} {texts} again normal) later =
       let same = script_one held words other script again named in
-      no_fault script fault tree texts is (subst (λ s. length s ≤ script_limit) same short) (subst (λ s. IsScriptOf s tree texts) same reads)
-  none_later (faulty_script {script} fault named is) (long_document asked _ _) later = faulty_asks held words script fault named is asked
-  none_later (faulty_script {script} fault named is) (no_forest asked _ _ _) later = faulty_asks held words script fault named is asked
-  none_later (faulty_script {script} fault named is) (done _ asked _ _ _ _) later = faulty_asks held words script fault named is asked
-  none_later (other_script {script} {tree} {texts} named _ reads none) (long_document asked _ _) later = deletes_or_none script tree texts _ reads none (asks_path held words script asked named)
-  none_later (other_script {script} {tree} {texts} named _ reads none) (no_forest asked _ _ _) later = deletes_or_none script tree texts _ reads none (asks_path held words script asked named)
-  none_later (other_script {script} {tree} {texts} named _ reads none) (done _ asked _ _ _ _) later = deletes_or_none script tree texts _ reads none (asks_path held words script asked named)
+      no_fault script fault tree texts is (subst (λ s. length s ≤ script_limit) same normal.within) (subst (λ s. IsScriptOf s tree texts) same normal.reads) normal.no_fault
+  none_later (faulty_script {script = script} fault named is) (other_script {script = other} {tree} {texts} again short reads clear _) later =
+      let same = script_one held words other script again named in
+      no_fault script fault tree texts is (subst (λ s. length s ≤ script_limit) same short) (subst (λ s. IsScriptOf s tree texts) same reads) clear
+  none_later (faulty_script {script = script} fault named is) (long_document asked _ _) later = faulty_asks held words script fault named is asked
+  none_later (faulty_script {script = script} fault named is) (no_forest asked _ _ _) later = faulty_asks held words script fault named is asked
+  none_later (faulty_script {script = script} fault named is) (done _ asked _ _ _ _) later = faulty_asks held words script fault named is asked
+  none_later (core_script named _) (other_script again _ _ _ _) later = one_kind held words _ _ _ named.form_is again.form_is
+  none_later (core_script named _) (long_document asked _ _) later = one_kind held words _ _ _ named.form_is asked.named.form_is
+  none_later (core_script named _) (no_forest asked _ _ _) later = one_kind held words _ _ _ named.form_is asked.named.form_is
+  none_later (core_script named _) (done _ asked _ _ _ _) later = one_kind held words _ _ _ named.form_is asked.named.form_is
+  none_later (other_script {script = script} {tree} {texts} named _ reads _ none) (long_document asked _ _) later = deletes_or_none script tree texts _ reads none (asks_path held words script asked named)
+  none_later (other_script {script = script} {tree} {texts} named _ reads _ none) (no_forest asked _ _ _) later = deletes_or_none script tree texts _ reads none (asks_path held words script asked named)
+  none_later (other_script {script = script} {tree} {texts} named _ reads _ none) (done _ asked _ _ _ _) later = deletes_or_none script tree texts _ reads none (asks_path held words script asked named)
   none_later (long_document {document} _ named long) (no_forest {document = other} _ again short _) later =
       omega (arith, long, short, ap length (document_one held words document other named again))
   none_later (long_document {document} _ named long) (done {document = other} _ _ again short _ _) later =
@@ -148,11 +169,14 @@ module _ (held : Held) (words : List (List ℕ)) where
 
   same_answer : {s t : Status} {o p l m : List ℕ} (a : Answer held words s o l) (b : Answer held words t p m) → reached a ≡ reached b → (s ≡ t) × (o ≡ p) × (l ≡ m)
   same_answer (usage _) (usage _) same = (refl, refl, refl)
-  same_answer (faulty_script {script} fault named is) (faulty_script {script = again} other other_named are) same =
+  same_answer (faulty_script {script = script} fault named is) (faulty_script {script = again} other other_named are) same =
       let are_again = subst (λ s. IsScriptFault s other) (script_one held words again script other_named named) are in
       let lines = fault_line_one script fault other is are_again in
       (refl, refl, lines ∙ ap (λ s. script_text s other) (script_one held words script again named other_named))
-  same_answer (other_script _ _ _ _) (other_script _ _ _ _) same = (refl, refl, refl)
+  same_answer (core_script {script = script} {tree} {texts} {normal} named is) (core_script {script = again} {tree = t} {texts = others} {normal = m} other_named are) same =
+      let are_again = subst (λ s. IsNormalScript s t others m) (script_one held words again script other_named named) are in
+      (refl, core_one script tree t texts others normal m is are_again, refl)
+  same_answer (other_script _ _ _ _ _) (other_script _ _ _ _ _) same = (refl, refl, refl)
   same_answer (long_document _ _ _) (long_document _ _ _) same = (refl, refl, refl)
   same_answer (no_forest {document} {place} _ named _ wrong) (no_forest {document = again} {place = other} _ other_named _ other_wrong) same =
       let documents = document_one held words document again named other_named in

@@ -7,11 +7,14 @@ use Rattle.flux_doctext.specs.Spells.{Spells}
 use Rattle.flux_doctext.specs.Documents.{IsNoDocument}
 use Rattle.flux_calculus.specs.Derives.{Derives}
 use Rattle.flux_top.specs.Paths.{standard, delete_on}
-use Rattle.flux_top.specs.Words.{form}
+use Rattle.flux_top.specs.Words.{Command, run, core, script_of, form}
 use Rattle.flux_top.specs.Lines.{status_of, line_of}
-use Rattle.flux_top.specs.Script.{script_limit, IsScriptOf, IsScriptFault, DeletesNone, DeletesPath}
+use Rattle.flux_top.specs.Script.{script_limit, IsScriptOf, IsScriptFault, IsNormalScript, DeletesNone, DeletesPath}
+use Rattle.flux_calculus.specs.Core.{Normal}
 use Rattle.flux_grammar.specs.declared.tree.Script.{Script as Tree}
+use Rattle.flux_grammar.specs.NormalFaults.{HasNoFault}
 use Rattle.flux_report.specs.declared.line.ScriptFault.{ScriptFault}
+use Rattle.flux_report.specs.CoreText.{core_text}
 use Rattle.flux_report.specs.Lines.{script_text}
 use Rattle.flux_report.specs.Positions.{line_of_place, column_of_place}
 use Rattle.flux_top.specs.declared.status.Status.{Status}
@@ -22,24 +25,25 @@ use Rattle.flux_top.specs.declared.refusal.Refusal.TheVariants.{WrongWords, Othe
 abbrev pub document_limit : ℕ
 document_limit = 33554432
 
--- the words name a script that is there, with these bytes, and a document
-pub record NamesScript (held : Held) (words : List (List ℕ)) (script : List ℕ) : Type 0 where
-  pub script_name : List ℕ
-  pub document_name : List ℕ
-  pub form_is : form words ≡ Some (script_name, document_name)
-  pub is_there : file held script_name ≡ Some script
+-- the words are this command, whose script is there, with these bytes
+pub record NamesScript (held : Held) (words : List (List ℕ)) (command : Command)
+    (script : List ℕ) : Type 0 where
+  pub form_is : form words ≡ Some command
+  pub is_there : file held (script_of command) ≡ Some script
 
 -- the words name a document that is there, with these bytes
 pub record NamesDocument (held : Held) (words : List (List ℕ)) (document : List ℕ) : Type 0 where
   pub script_name : List ℕ
   pub document_name : List ℕ
-  pub form_is : form words ≡ Some (script_name, document_name)
+  pub form_is : form words ≡ Some (run script_name document_name)
   pub is_there : file held document_name ≡ Some document
 
--- the script that the words name is within its limit and deletes the path of these steps
+-- the words ask for a run of a script within its limit that deletes the path of these steps
 pub record AsksDeletion (held : Held) (words : List (List ℕ)) (steps : List (List ℕ)) : Type 0 where
+  pub script_name : List ℕ
+  pub document_name : List ℕ
   pub script : List ℕ
-  pub named : NamesScript held words script
+  pub named : NamesScript held words (run script_name document_name) script
   pub within : length script ≤ script_limit
   pub deletes : DeletesPath script steps
 
@@ -54,13 +58,21 @@ pub data Answer (held : Held) (words : List (List ℕ)) : Status → List ℕ �
   usage : form words ≡ None →
       Answer held words (status_of WrongWords) [] (line_of WrongWords)
   -- the script has a fault
-  faulty_script : {script : List ℕ} (fault : ScriptFault) →
-      NamesScript held words script → IsScriptFault script fault →
+  faulty_script : {command : Command} {script : List ℕ} (fault : ScriptFault) →
+      NamesScript held words command script → IsScriptFault script fault →
       Answer held words Script [] (script_text script fault)
-  -- it has a reading, and deletes no path
-  other_script : {script : List ℕ} {tree : Tree} {texts : List (List ℕ)} →
-      NamesScript held words script → length script ≤ script_limit →
-      IsScriptOf script tree texts → DeletesNone tree →
+  -- its normal form is asked for: the output is the text of it
+  core_script : {script_name script : List ℕ} {tree : Tree} {texts : List (List ℕ)}
+      {normal : Normal} →
+      NamesScript held words (core script_name) script →
+      IsNormalScript script tree texts normal →
+      Answer held words Done (core_text texts normal) []
+  -- it has no fault, and deletes no path
+  other_script : {script_name document_name script : List ℕ} {tree : Tree}
+      {texts : List (List ℕ)} →
+      NamesScript held words (run script_name document_name) script →
+      length script ≤ script_limit → IsScriptOf script tree texts → HasNoFault tree →
+      DeletesNone tree →
       Answer held words (status_of OtherScript) [] (line_of OtherScript)
   -- the document is over its limit; it is within it, and spells no forest
   long_document : {steps : List (List ℕ)} {document : List ℕ} →
@@ -80,9 +92,8 @@ pub data Answer (held : Held) (words : List (List ℕ)) : Status → List ℕ �
 
 -- a file whose turn has come isn't there: the script, or the document of a script that is taken
 pub data Lacking (held : Held) (words : List (List ℕ)) : Type 0 where
-  no_script : {script_name document_name : List ℕ} →
-      form words ≡ Some (script_name, document_name) → file held script_name ≡ None →
-      Lacking held words
+  no_script : {command : Command} →
+      form words ≡ Some command → file held (script_of command) ≡ None → Lacking held words
   no_document : {steps : List (List ℕ)} {script_name document_name : List ℕ} →
-      AsksDeletion held words steps → form words ≡ Some (script_name, document_name) →
+      AsksDeletion held words steps → form words ≡ Some (run script_name document_name) →
       file held document_name ≡ None → Lacking held words

@@ -1,12 +1,12 @@
 -- What the top call promises of its status, its output and its line.
-use Rattle.std.specs.Prelude.{◌≡◌, ◌⊎◌, ◌<◌, ℕ, List, [], ◌∷◌, ◌++◌, length, map, take, Option, IsSome, IfSome}
+use Rattle.std.specs.Prelude.{◌≡◌, ◌⊎◌, ◌<◌, ℕ, List, [], ◌∷◌, ◌++◌, length, map, take, Option, Some, IsSome, IfSome}
 use Rattle.std.specs.Io.KnownBytes.{append_known}
 use Rattle.flux_io.specs.Outside.{Held}
 use Rattle.flux_trees.specs.Hedge.{Plain}
 use Rattle.flux_doctext.specs.Text.{name_text}
 use Rattle.flux_doctext.specs.Spells.{Spells}
 use Rattle.flux_calculus.specs.Derives.{Derives}
-use Rattle.flux_top.specs.Words.{form}
+use Rattle.flux_top.specs.Words.{run, form}
 use Rattle.flux_top.specs.Paths.{standard, delete_on}
 use Rattle.flux_report.specs.declared.line.ScriptFault.{ScriptFault}
 use Rattle.flux_report.specs.Lines.{script_text, IsShown}
@@ -63,9 +63,10 @@ pub record IsTextOfResult (held : Held) (words : List (List ℕ)) (output : List
   pub output_is : output ≡ text ++ 10 ∷ []
   pub spells : Spells names text after
 
--- such bytes were appended to the output
+-- such bytes were appended to the output, where the words ask for a run
 abbrev pub ReadsBack : Option Held → List (List ℕ) → (old new : Option (List ℕ)) → Type 0
 ReadsBack holds words old new = IfSome holds (λ held.
+    (script document : List ℕ) → form words ≡ Some (run script document) →
     (output : List ℕ) × IsTextOfResult held words output × (new ≡ append_known old output))
 
 -- what a run with that status did to the output

@@ -1,13 +1,14 @@
 -- What the parts of a run that come before the write promise.
 use Rattle.std.specs.Prelude.{◌≡◌, ◌⊎◌, ◌<◌, ℕ, List, [], length, Option, Some, None, IsSome, IfSome, IsSomeAnd}
 use Rattle.flux_io.specs.Outside.{Held, file, Lacks}
-use Rattle.flux_top.specs.Words.{form}
+use Rattle.flux_top.specs.Words.{Command, form}
 use Rattle.flux_top.specs.Lines.{status_of, line_of}
 use Rattle.flux_grammar.specs.declared.tree.Script.{Script as Tree}
 use Rattle.flux_report.specs.declared.line.ScriptFault.{ScriptFault}
 use Rattle.flux_report.specs.Lines.{script_text}
 use Rattle.flux_report.specs.Positions.{line_of_place, column_of_place}
 use Rattle.flux_doctext.specs.Documents.{IsNoDocument}
+use Rattle.flux_grammar.specs.NormalFaults.{HasNoFault}
 use Rattle.flux_top.specs.Script.{IsScriptOf, IsScriptFault, DeletesNone}
 use Rattle.flux_top.specs.Answer.{Answer, Lacking}
 use Rattle.flux_top.specs.Clauses.{IsScriptLine}
@@ -34,14 +35,24 @@ Tells (FaultyScript found) line = found.items ≡ line
 Tells NoMemory line = Unit {0}
 Tells _ line = ⊥
 
--- the bytes are no script, or one that deletes no path, or there was no memory
+-- the script has a fault, or there was no memory
 abbrev pub IsScriptRefusal : List ℕ → Refusal → Type 0
 IsScriptRefusal bytes (FaultyScript line) =
     (fault : ScriptFault) × IsScriptFault bytes fault × (line.items ≡ script_text bytes fault)
-IsScriptRefusal bytes OtherScript =
-    (tree : Tree) × (texts : List (List ℕ)) × IsScriptOf bytes tree texts × DeletesNone tree
 IsScriptRefusal bytes NoMemory = Unit {0}
 IsScriptRefusal bytes _ = ⊥
+
+-- it has no fault, and deletes no path, or there was no memory
+abbrev pub IsOtherRefusal : List ℕ → Refusal → Type 0
+IsOtherRefusal bytes OtherScript =
+    (tree : Tree) × (texts : List (List ℕ)) × IsScriptOf bytes tree texts × HasNoFault tree
+    × DeletesNone tree
+IsOtherRefusal bytes NoMemory = Unit {0}
+IsOtherRefusal bytes _ = ⊥
+
+-- a script is refused before its document is read
+abbrev pub IsDeletionRefusal : List ℕ → Refusal → Type 0
+IsDeletionRefusal bytes refusal = IsScriptRefusal bytes refusal ⊎ IsOtherRefusal bytes refusal
 
 -- the document spells no forest, and the refusal has the position where its longest viable prefix
 -- ends
@@ -64,3 +75,7 @@ IsEarlyRefusal holds words rose NoRead =
     (rose × IsSome (form words)) ⊎ IsSomeAnd holds (λ held. Lacking held words)
 IsEarlyRefusal holds words rose NoWrite = ⊥
 IsEarlyRefusal holds words rose NoMemory = Unit {0}
+
+-- it holds of all words that ask for the command
+abbrev pub WhereAsked : Command → (List (List ℕ) → Type 0) → Type 0
+WhereAsked command Holds = (words : List (List ℕ)) → form words ≡ Some command → Holds words

@@ -10,21 +10,21 @@ ghost use Rattle.flux_top.specs.Paths.{standard, delete_on};
 ghost use Rattle.flux_doctext.specs.Text.{text, name_text};
 ghost use Rattle.flux_top.specs.Script.{DeletesPath};
 ghost use Rattle.flux_doctext.specs.Spells.{Spells};
-ghost use Rattle.flux_top.specs.Words.{texts, form};
+ghost use Rattle.flux_top.specs.Words.{texts, form, run, core};
 ghost use Rattle.flux_top.specs.Answer.{Lacking};
 ghost use Rattle.flux_top.specs.Clauses.{IsStatus, IsComplete, IsOutput, Writes, ReadsBack, Shows};
-ghost use Rattle.flux_top.specs.Prepare.{IsFileRefusal, IsNoForest, IsEarlyRefusal};
+ghost use Rattle.flux_top.specs.Prepare.{IsFileRefusal, IsNoForest, IsEarlyRefusal, WhereAsked};
 
 use crate::Status;
 use crate::delete::deleted;
 use crate::refusal::{Refusal, refuse};
-use crate::script::read_script;
-use crate::words::file_names;
+use crate::script::{read_deletion, read_script};
+use crate::words::{Words, read_words};
 use flux_atom::{Name, Names};
 use flux_doctext::{DocFault, read_document, write_forest};
 use flux_forest::Forest;
 use flux_io::{Fault, Folder, Refused, Sink, read_all, write_all};
-use flux_report::line_and_column;
+use flux_report::{line_and_column, write_core};
 use std::alloc::{AllocError, Global};
 
 // The most bytes of a script.
@@ -96,23 +96,24 @@ fn result_text(
     Ok(output)
 }
 
-// All that comes before the write: what is to be written, or the refusal.
-fn prepare<F: Folder>(alloc: Global, words: &[String], folder: &mut F) -> Result<Vec<u8>, Refusal>
+// The text of a document after its update by a script.
+fn updated<F: Folder>(
+    alloc: Global,
+    script: &str,
+    document: &str,
+    folder: &mut F,
+) -> Result<Vec<u8>, Refusal>
     ensures same { F.holds folder.new ≡ F.holds folder.old }
     ensures later { F.faults folder.old ≤ F.faults folder.new }
-    ensures output { IfOk result (λ output.
-        IsOutput (F.holds folder.old) (texts words.now) output.items) }
-    ensures form { IfOk result (λ output. IsSome (form (texts words.now))) }
-    ensures refused { IfErr result (IsEarlyRefusal (F.holds folder.old) (texts words.now)
-        (Rose (F.faults folder.old) (F.faults folder.new))) }
-    ensures no_form { form (texts words.now) ≡ None → IsErrOf result Refusal.WrongWords }
+    ensures output { IfOk result (λ output. WhereAsked (run script.now document.now) (λ words.
+        IsOutput (F.holds folder.old) words output.items)) }
+    ensures refused { IfErr result (λ refusal. WhereAsked (run script.now document.now) (λ words.
+        IsEarlyRefusal (F.holds folder.old) words
+        (Rose (F.faults folder.old) (F.faults folder.new)) refusal)) }
 {
-    let Some((script, document)) = file_names(words) else {
-        return Err(Refusal::WrongWords);
-    };
     let mut names = Names::new(alloc);
     let script = read_file(alloc, folder, script, SCRIPT_LIMIT, Refusal::LongScript)?;
-    let path = read_script(alloc, script.as_slice(), &mut names)?;
+    let path = read_deletion(alloc, script.as_slice(), &mut names)?;
     let document = read_file(
         alloc,
         folder,
@@ -127,8 +128,46 @@ fn prepare<F: Folder>(alloc: Global, words: &[String], folder: &mut F) -> Result
     }
 }
 
+// The text of a script in the core language.
+fn core_script<F: Folder>(alloc: Global, script: &str, folder: &mut F) -> Result<Vec<u8>, Refusal>
+    ensures same { F.holds folder.new ≡ F.holds folder.old }
+    ensures later { F.faults folder.old ≤ F.faults folder.new }
+    ensures output { IfOk result (λ output. WhereAsked (core script.now) (λ words.
+        IsOutput (F.holds folder.old) words output.items)) }
+    ensures refused { IfErr result (λ refusal. WhereAsked (core script.now) (λ words.
+        IsEarlyRefusal (F.holds folder.old) words
+        (Rose (F.faults folder.old) (F.faults folder.new)) refusal)) }
+{
+    let mut names = Names::new(alloc);
+    let script = read_file(alloc, folder, script, SCRIPT_LIMIT, Refusal::LongScript)?;
+    let reading = read_script(alloc, script.as_slice(), &mut names)?;
+    let mut output = Vec::new(alloc);
+    match write_core(alloc, &reading.normal, &names, &mut output) {
+        Ok(()) => Ok(output),
+        Err(_) => Err(Refusal::NoMemory),
+    }
+}
+
+// All that comes before the write: what is to be written, or the refusal.
+fn prepare<F: Folder>(alloc: Global, words: &[String], folder: &mut F) -> Result<Vec<u8>, Refusal>
+    ensures same { F.holds folder.new ≡ F.holds folder.old }
+    ensures later { F.faults folder.old ≤ F.faults folder.new }
+    ensures output { IfOk result (λ output.
+        IsOutput (F.holds folder.old) (texts words.now) output.items) }
+    ensures form { IfOk result (λ output. IsSome (form (texts words.now))) }
+    ensures refused { IfErr result (IsEarlyRefusal (F.holds folder.old) (texts words.now)
+        (Rose (F.faults folder.old) (F.faults folder.new))) }
+    ensures no_form { form (texts words.now) ≡ None → IsErrOf result Refusal.WrongWords }
+{
+    match read_words(words) {
+        Some(Words::Run(script, document)) => updated(alloc, script, document, folder),
+        Some(Words::Core(script)) => core_script(alloc, script, folder),
+        None => Err(Refusal::WrongWords),
+    }
+}
+
 /// Runs the words over the folder: writes to `out` what they ask for, or one line to `err`. The
-/// words are `run SCRIPT DOC`; all others are refused. A line that `err` doesn't take changes no
+/// words are `run SCRIPT DOC` or `core SCRIPT`; all others are refused. A line that `err` doesn't take changes no
 /// status, unless it is refused for want of memory.
 pub fn flux<F: Folder, W: Sink, X: Sink>(
     alloc: Global,

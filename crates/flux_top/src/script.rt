@@ -1,23 +1,70 @@
-// The path that a script deletes.
-ghost use Rattle.std.specs.Prelude.{◌≡◌, ◌≢◌, ◌⊎◌, ◌-◌, ◌^◌, ◌<◌, ◌≤◌, ◌∷◌, [], ℕ, List, All, length, map, Some, MatchOption, IfSome, IfNone, IfOk, IfErr};
+// What a script is read as, and the path that it deletes.
+ghost use Rattle.std.specs.Prelude.{◌≡◌, ◌≢◌, ◌⊎◌, true, ◌-◌, ◌^◌, ◌<◌, ◌≤◌, ◌∷◌, [], ℕ, List, All, length, map, Some, MatchOption, IfSome, IfNone, IfOk, IfErr};
 ghost use Rattle.flux_atom.specs.Names.{IsTable, name_text};
 ghost use Rattle.flux_calculus.specs.declared.ask.Span.{Span};
 ghost use Rattle.flux_grammar.specs.declared.tree.Path.{Path};
 ghost use Rattle.flux_grammar.specs.declared.tree.Stmt.TheVariants.{Delete};
-ghost use Rattle.flux_report.specs.Lines.{script_text, IsShown};
-ghost use Rattle.flux_top.specs.Script.{script_limit, lone_label, IsScriptOf, IsDeletion, DeletesNone, DeletesPath};
-ghost use Rattle.flux_top.specs.Prepare.{Tells, IsScriptRefusal};
+ghost use Rattle.flux_core.specs.Normals.{normal_of};
+ghost use Rattle.flux_report.specs.Lines.{script_text, IsShown, HasLine};
+ghost use Rattle.flux_top.specs.Script.{script_limit, lone_label, IsScriptOf, HasNormFault, IsNormalScript, IsDeletion, DeletesNone, DeletesPath};
+ghost use Rattle.flux_top.specs.Prepare.{Tells, IsScriptRefusal, IsDeletionRefusal};
 
 use crate::refusal::Refusal;
 use flux_atom::{Name, Names};
+use flux_core::Normal;
 use flux_lex::lex;
+use flux_normal::{NormFault, normal};
 use flux_report::{LexFault, ScriptFault, SynFault, script_line};
 use flux_syntax::{Path, Script, Step, Stmt, TestText, parse};
 use std::alloc::{AllocError, Global};
 
+/// A script that is read, with its normal form.
+#[derive(Drop)]
+pub struct Reading {
+    pub tree: Script,
+    pub normal: Normal,
+}
+
+/// The tree and the normal form of a script, over the table, which learns the names of the script.
+/// After a refusal the table may hold further names.
+pub fn read_script(alloc: Global, script: &[u8], names: &mut Names) -> Result<Reading, Refusal>
+    requires empty { names.old ≡ [] }
+    requires within { length script.now ≤ script_limit }
+    ensures table { IsTable names.new }
+    ensures room { length names.new ≤ length script.now }
+    ensures normal { IfOk result (λ reading.
+        IsNormalScript script.now reading.tree names.new (normal_of reading.normal)) }
+    ensures refused { IfErr result (IsScriptRefusal script.now) }
+{
+    let tree = read_tree(alloc, script, names)?;
+    match normal(alloc, &tree) {
+        Ok(normal) => Ok(Reading { tree, normal }),
+        Err(fault) => Err(norm_refusal(alloc, script, fault, names)),
+    }
+}
+
+// The refusal of a script that has this fault and no normal form.
+fn norm_refusal(alloc: Global, script: &[u8], fault: NormFault, names: &Names) -> Refusal
+    requires within { length script.now ≤ script_limit }
+    requires faulty { HasNormFault script.now fault }
+    ensures { IsScriptRefusal script.now result }
+{
+    if !has_line(&fault) {
+        return Refusal::NoMemory;
+    }
+    faulty(alloc, script, &ScriptFault::Norm(fault), names)
+}
+
+// Whether it isn't want of memory.
+fn has_line(fault: &NormFault) -> bool
+    ensures { result ≡ true → HasLine fault.now }
+{
+    !matches!(fault, NormFault::Memory(_))
+}
+
 /// The labels of the path that the script deletes, as names of the table, which learns the names
 /// of the script. After a refusal the table may hold further names.
-pub fn read_script(alloc: Global, script: &[u8], names: &mut Names) -> Result<Vec<Name>, Refusal>
+pub fn read_deletion(alloc: Global, script: &[u8], names: &mut Names) -> Result<Vec<Name>, Refusal>
     requires empty { names.old ≡ [] }
     requires within { length script.now ≤ script_limit }
     ensures table { IsTable names.new }
@@ -26,10 +73,12 @@ pub fn read_script(alloc: Global, script: &[u8], names: &mut Names) -> Result<Ve
         DeletesPath script.now (map (name_text names.new) path.items)) }
     ensures some { IfOk result (λ path. 0 < length path.items) }
     ensures known { IfOk result (λ path. All (λ n. n < length names.new) path.items) }
-    ensures refused { IfErr result (IsScriptRefusal script.now) }
+    ensures refused { IfErr result (IsDeletionRefusal script.now) }
 {
-    let tree = read_tree(alloc, script, names)?;
-    deleted_path(alloc, &tree)
+    match read_script(alloc, script, names) {
+        Ok(reading) => deleted_path(alloc, &reading.tree),
+        Err(refusal) => Err(refusal),
+    }
 }
 
 // The tree that the script reads as.

@@ -56,16 +56,24 @@ fn end(
     Ok(Ended { status, out, err })
 }
 
-// `run s d` with these files, ample sinks and no fault.
-fn run(alloc: Global, script: &str, document: &str) -> Result<Ended, AllocError> {
+// The words with these files, ample sinks and no fault.
+fn ample(alloc: Global, words: &[&str], script: &str, document: &str) -> Result<Ended, AllocError> {
     let folder = folder(alloc, script.as_bytes(), document.as_bytes(), 0)?;
     end(
         alloc,
-        &["run", "s", "d"],
+        words,
         folder,
         MemSink::new(alloc, None),
         MemSink::new(alloc, None),
     )
+}
+
+fn run(alloc: Global, script: &str, document: &str) -> Result<Ended, AllocError> {
+    ample(alloc, &["run", "s", "d"], script, document)
+}
+
+fn core(alloc: Global, script: &str) -> Result<Ended, AllocError> {
+    ample(alloc, &["core", "s"], script, DOCUMENT)
 }
 
 // Whether the program answers this to these files.
@@ -103,7 +111,6 @@ fn runs(rt: HostRuntime) -> Result<(), Fail> {
         ("INPUT(a[]|b[])+DO DELETE a", "a[],b[]", "b[]\n"),
         ("INPUT a[] OUTPUT () DO DELETE a", "a[],b[]", "b[]\n"),
         ("TYPE A=a[A*]; INPUT A DO DELETE a", "a[],b[]", "b[]\n"),
-        ("INPUT Unknown DO DELETE a", "a[],b[]", "b[]\n"),
         (
             "PROCEDURE p($x:int):a[]=>b[]{SKIP} INPUT a[] DO DELETE a",
             "a[],b[]",
@@ -141,8 +148,82 @@ fn runs(rt: HostRuntime) -> Result<(), Fail> {
     Ok(())
 }
 
+// A path of so many steps, deleted.
+fn long_path(alloc: Global, steps: u32) -> Result<String, AllocError> {
+    let mut script = String::from_str(alloc, "INPUT a[] DO DELETE a")?;
+    for _ in 1..steps {
+        script.push_str("/a")?;
+    }
+    Ok(script)
+}
+
+#[test]
+fn writes_normal_forms(rt: HostRuntime) -> Result<(), Fail> {
+    let alloc = rt.alloc();
+    let table = [
+        (SCRIPT, "iter[lib?children[iter[book?delete]]]\n"),
+        (
+            "INPUT a[string] DO UPDATE $x AS a BY REPLACE . WITH b[$x]",
+            "iter[a?snapshot $x in {delete;insert(b[$x])}]\n",
+        ),
+        (
+            "TYPE A=a[A*]; TYPE B=b[B*]; PROCEDURE strip() : A* => B* { UPDATE a/. BY \
+                CALL strip(); RENAME a TO b } INPUT A* OUTPUT B* DO CALL strip()",
+            "procedure strip():A*=>B*{{iter[a?children[call strip()]];iter[a?rename b]}}\n\
+                call strip()\n",
+        ),
+        (
+            "PROCEDURE p($x:int,$y:'for'[()]?):a[]=>b[]{SKIP} \
+                INPUT a[] DO IF $x/b < 1 THEN CALL p(1,'for'[]) ELSE SKIP",
+            "procedure p($x:int,$y:'for'[]|()):a[]=>b[]{skip}\n\
+                if(((for $1 in $x return $1/child::b)<1))then call p(1,for[]) else skip\n",
+        ),
+        (
+            "INPUT a[] DO LET $x = (\"b\\u{41}\",true) IN INSERT VALUE $x; INSERT VALUE ()",
+            "{let $x=(\"bA\",true) in insert($x);insert(())}\n",
+        ),
+    ];
+    for (script, text) in table {
+        let ended = core(alloc, script)?;
+        assert_eq!(rt; ended.status, Status::Done, "{script}");
+        assert_eq!(rt; ended.out.bytes(), text.as_bytes(), "{script}");
+        assert_eq!(rt; ended.err.bytes(), b"".as_slice(), "{script}");
+    }
+    Ok(())
+}
+
+// 66 steps lie 198 deep, 67 lie 201 deep.
+#[test]
+fn keeps_the_nesting(rt: HostRuntime) -> Result<(), Fail> {
+    let alloc = rt.alloc();
+    let mut text = String::new(alloc);
+    for _ in 1..66 {
+        text.push_str("iter[a?children[")?;
+    }
+    text.push_str("iter[a?delete]")?;
+    for _ in 1..66 {
+        text.push_str("]]")?;
+    }
+    text.push_str("\n")?;
+    let deep = long_path(alloc, 66)?;
+    let ended = core(alloc, deep.as_str())?;
+    assert_eq!(rt; ended.status, Status::Done);
+    assert_eq!(rt; ended.out.bytes(), text.as_bytes());
+    let ended = run(alloc, deep.as_str(), "a[a[]]")?;
+    assert_eq!(rt; ended.status, Status::Done);
+    let deeper = long_path(alloc, 67)?;
+    for ended in [
+        core(alloc, deeper.as_str())?,
+        run(alloc, deeper.as_str(), DOCUMENT)?,
+    ] {
+        assert_eq!(rt; ended.status, Status::Script);
+        assert_eq!(rt; ended.err.bytes(), b"script:1:14: TooNested\n".as_slice());
+    }
+    Ok(())
+}
+
 // Scripts that have no reading, and bytes that are no tokens: the first place of which no script
-// goes on.
+// goes on. Then scripts that have no normal form.
 #[test]
 fn refuses_faulty_scripts(rt: HostRuntime) -> Result<(), Fail> {
     let alloc = rt.alloc();
@@ -175,11 +256,26 @@ fn refuses_faulty_scripts(rt: HostRuntime) -> Result<(), Fail> {
         ("INPUT a[] DO DELETE é", "1:21: Bad"),
         ("INPUT a[] DO DELETE 'true'", "1:26: Bad"),
         ("INPUT a[] DO\n\nDELETE a!", "3:9: Bad"),
+        (
+            "TYPE A=a[];\nTYPE A=b[]; INPUT A DO DELETE a",
+            "2:6: Duplicate",
+        ),
+        ("INPUT Unknown DO DELETE a", "1:7: UnknownType"),
+        ("TYPE X=X,a[]; INPUT X DO SKIP", "1:6: Unguarded"),
+        ("INPUT a[] DO CALL q()", "1:14: UnknownProc"),
+        (
+            "PROCEDURE p():a[]=>a[]{SKIP} INPUT a[] DO CALL p(1)",
+            "1:43: Arity",
+        ),
     ];
     for (script, fault) in table {
         let line = format!(in alloc; "script:{fault}\n")?;
         let right = answers(alloc, (script, DOCUMENT), Status::Script, "", line.as_str())?;
         assert!(rt; right, "{script}");
+        let ended = core(alloc, script)?;
+        assert_eq!(rt; ended.status, Status::Script, "{script}");
+        assert_eq!(rt; ended.out.bytes(), b"".as_slice(), "{script}");
+        assert_eq!(rt; ended.err.bytes(), line.as_bytes(), "{script}");
     }
     Ok(())
 }
@@ -218,7 +314,6 @@ fn refuses_other_scripts(rt: HostRuntime) -> Result<(), Fail> {
         "RENAME a TO b",
         "REPLACE a WITH b[]",
         "REPLACE IN a WITH \"x\"",
-        "CALL p()",
     ];
     for body in table {
         let script = format!(in alloc; "INPUT a[] DO {body}")?;
@@ -371,13 +466,16 @@ fn tells_words_from_labels(rt: HostRuntime) -> Result<(), Fail> {
 #[test]
 fn refuses_other_words(rt: HostRuntime) -> Result<(), Fail> {
     let alloc = rt.alloc();
-    let table: [&[&str]; 7] = [
+    let table: [&[&str]; 10] = [
         &[],
         &["run"],
         &["run", "s"],
         &["run", "s", "d", "d"],
         &["--help"],
         &["check", "s"],
+        &["core"],
+        &["core", "s", "d"],
+        &["Core", "s"],
         &["Run", "s", "d"],
     ];
     for words in table {
@@ -424,6 +522,9 @@ fn ends_where_a_call_of_the_folder_fails(rt: HostRuntime) -> Result<(), Fail> {
 #[test]
 fn ends_where_a_file_is_missing(rt: HostRuntime) -> Result<(), Fail> {
     let alloc = rt.alloc();
+    let ended = ample(alloc, &["core", "x"], SCRIPT, DOCUMENT)?;
+    assert_eq!(rt; ended.status, Status::ReadFault);
+    assert_eq!(rt; ended.out.bytes(), b"".as_slice());
     let table: [(&str, &str, &str, Status); 5] = [
         (SCRIPT, "s", "x", Status::ReadFault),
         (SCRIPT, "x", "d", Status::ReadFault),
