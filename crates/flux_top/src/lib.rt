@@ -14,4 +14,6 @@ pub use run::flux;
 pub use status::Status;
 
 #[cfg(test)]
+mod normal_tests;
+#[cfg(test)]
 mod tests;

@@ -6,10 +6,10 @@ use std::test::Fail;
 
 /// How a run ended, and what it wrote.
 #[derive(Drop)]
-struct Ended {
-    status: Status,
-    out: MemSink,
-    err: MemSink,
+pub(crate) struct Ended {
+    pub status: Status,
+    pub out: MemSink,
+    pub err: MemSink,
 }
 
 const USAGE: &str = "usage: flux check SCRIPT | run [--depth N] SCRIPT DOC \
@@ -72,7 +72,8 @@ fn run(alloc: Global, script: &str, document: &str) -> Result<Ended, AllocError>
     ample(alloc, &["run", "s", "d"], script, document)
 }
 
-fn core(alloc: Global, script: &str) -> Result<Ended, AllocError> {
+// `core s` with this script.
+pub(crate) fn core(alloc: Global, script: &str) -> Result<Ended, AllocError> {
     ample(alloc, &["core", "s"], script, DOCUMENT)
 }
 
