@@ -1,10 +1,10 @@
 -- What the nodes of a forest say of its first tree.
-use Rattle.std.proofs.Common.{◌≡◌, ℕ, ◌-◌, ◌<◌, ◌≤◌, suc, List, ◌++◌, length, take, drop, refl, ap, ap₂, ◌∙◌, sym, arith}
+use Rattle.std.proofs.Common.{◌≡◌, ℕ, ◌-◌, ◌<◌, ◌≤◌, suc, List, [], ◌++◌, length, take, drop, refl, ap, ap₂, ◌∙◌, sym, arith}
 use Rattle.std.proofs.Math.Seq.{take-append_seam, drop-append_seam, take-length}
 use Rattle.std.proofs.Math.ListN.{get_or}
 use Rattle.std.proofs.lemmas.List.{length-drop}
 use Rattle.flux_trees.specs.Hedge.{Plain, nil, elem, leaf, size, first, others, content, opened, trees, IsElement}
-use Rattle.flux_trees.specs.Draft.{depth, outer}
+use Rattle.flux_trees.specs.Draft.{done, depth, outer}
 use Rattle.flux_trees.proofs.HedgeLaws.{join-first, join-nil}
 use Rattle.flux_trees.proofs.DraftLaws.{whole_is, IsWhole-depth}
 use Rattle.flux_atom.specs.declared.atom.Atom.{Atom}
@@ -12,8 +12,8 @@ use Rattle.flux_forest.specs.declared.node.Item.TheVariants.{Element, Leaf}
 use Rattle.flux_forest.specs.declared.node.Node.{Node}
 use Rattle.flux_forest.specs.declared.view.View.{View}
 use Rattle.flux_forest.specs.View.{forest_of}
-use Rattle.flux_forest.specs.Flat.{PlainDraft, flat, flat_draft, hedge_of, IsFlat, draft_of, IsDraft}
-use Rattle.flux_forest.proofs.FlatLaws.{hedge_of-flat, flat-join, length-flat}
+use Rattle.flux_forest.specs.Flat.{PlainDraft, flat, flat_draft, places, hedge_of, IsFlat, draft_of, IsDraft}
+use Rattle.flux_forest.proofs.FlatLaws.{hedge_of-flat, draft_of-flat_draft, flat-join, length-flat}
 
 -- the nodes are those of h
 pub record AreNodes (h : Plain) (ns : List Node) : Type 0 where
@@ -31,6 +31,16 @@ shown v = record { same = sym v.is_flat }
 
 pub whole_nodes : {ns : List Node} {ps : List ℕ} (d : PlainDraft) → IsDraft (draft_of ns) ns ps → draft_of ns ≡ d → depth d ≡ 0 → AreNodes (outer d) ns
 whole_nodes d i e w = record { same = i.nodes ∙ ap flat_draft (e ∙ whole_is d (IsWhole-depth d w)) }
+
+-- nodes with the sizes of their trees are those of a forest that is written whole
+pub draft_of-nodes : (ns : List Node) → IsFlat ns → draft_of ns ≡ done (hedge_of ns)
+draft_of-nodes ns i = ap draft_of (sym i) ∙ draft_of-flat_draft (done (hedge_of ns))
+
+pub is_draft : (ns : List Node) (ps : List ℕ) → IsFlat ns → ps ≡ [] → IsDraft (draft_of ns) ns ps
+is_draft ns ps i e = record {
+  nodes = sym i ∙ ap flat_draft (sym (draft_of-nodes ns i));
+  begun_at = e ∙ ap (places 0) (sym (draft_of-nodes ns i));
+}
 
 pub length-nodes : {h : Plain} {ns : List Node} → AreNodes h ns → length ns ≡ size h
 length-nodes {h} i = ap length i.same ∙ length-flat h

@@ -34,7 +34,26 @@ impl Model for Forest {
 }
 
 impl Forest {
+    ghost use Rattle.flux_forest.specs.Flat.{hedge_of, IsFlat};
     ghost use Rattle.flux_forest.specs.View.{forest_of};
+
+    /// The trees of nodes in document order.
+    pub fn from_nodes(nodes: Vec<Node>) -> Self
+        requires { IsFlat nodes.items }
+        ensures { result ≡ done (hedge_of nodes.items) }
+    {
+        let begun = Vec::new(*nodes.allocator());
+        Forest { nodes, begun }
+    }
+
+    /// The nodes of the trees, in document order.
+    pub fn into_nodes(self) -> Vec<Node>
+        requires { depth self ≡ 0 }
+        ensures flat { IsFlat result.items }
+        ensures same { done (hedge_of result.items) ≡ self }
+    {
+        self.nodes
+    }
 
     /// No trees, and no element begun.
     pub fn new(alloc: Global) -> Self

@@ -4,9 +4,9 @@ ghost use Rattle.std.specs.Prelude.{◌≡◌, ◌↔◌, ◌++◌, length, take
 use flux_atom::{Atom, Name};
 use std::alloc::{AllocError, Global};
 
-// What stands at a node.
+/// What stands at a node.
 #[derive(Drop)]
-pub(crate) enum Item {
+pub enum Item {
     Element(Name),
     Leaf(Atom),
 }
@@ -34,11 +34,11 @@ fn is_same_atom(atom: &Atom, other: &Atom) -> bool
     }
 }
 
-// A node, and how many nodes its tree has, itself among them: none while it is begun.
+/// A node, and how many nodes its tree has, itself among them: none while it is begun.
 #[derive(Drop)]
-pub(crate) struct Node {
-    pub(crate) item: Item,
-    pub(crate) size: usize,
+pub struct Node {
+    pub item: Item,
+    pub size: usize,
 }
 
 impl Node {
@@ -48,7 +48,7 @@ impl Node {
         self.size == other.size && self.item.is_same(&other.item)
     }
 
-    fn copy(&self, alloc: Global) -> Result<Node, AllocError>
+    pub fn copy(&self, alloc: Global) -> Result<Node, AllocError>
         ensures { IfOk result (λ copied. copied ≡ self.now) }
     {
         let item = match &self.item {
@@ -76,8 +76,8 @@ pub(crate) fn are_same(nodes: &[Node], others: &[Node]) -> bool
     true
 }
 
-// On want of memory some copies may stand behind the nodes that were there.
-pub(crate) fn push_copies(nodes: &mut Vec<Node>, copied: &[Node]) -> Result<(), AllocError>
+/// On want of memory some copies may stand behind the nodes that were there.
+pub fn push_copies(nodes: &mut Vec<Node>, copied: &[Node]) -> Result<(), AllocError>
     ensures ok { OnOk result (nodes.new.items ≡ nodes.old.items ++ copied.now) }
     ensures err { OnErr result (take (length nodes.old.items) nodes.new.items ≡ nodes.old.items) }
 {

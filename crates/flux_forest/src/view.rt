@@ -36,8 +36,17 @@ pub enum First<'a> {
 impl<'a> View<'a> {
     ghost use Rattle.flux_trees.specs.Hedge.{nil, size, first, others, content, opened, IsElement};
     ghost use Rattle.flux_trees.specs.Draft.{done};
+    ghost use Rattle.flux_forest.specs.Flat.{hedge_of, IsFlat};
     ghost use Rattle.flux_forest.specs.View.{forest_of};
     ghost use Rattle.flux_forest.specs.Heads.{IsHead, IsFirst};
+
+    /// The nodes of the trees, in document order.
+    pub fn nodes(self) -> &'a [Node]
+        ensures flat { IsFlat result.now }
+        ensures same { hedge_of result.now ≡ forest_of self.entry }
+    {
+        self.nodes
+    }
 
     pub fn is_empty(self) -> bool
         ensures { IsTrue result ↔ (forest_of self.entry ≡ nil) }
