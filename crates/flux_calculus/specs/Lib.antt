@@ -1,5 +1,7 @@
 pub use Rattle.flux_trees.specs.Hedge
 pub use Rattle.flux_trees.specs.Each
+pub use Rattle.flux_trees.specs.Frame
+pub use Rattle.flux_trees.specs.Edits
 pub mod Tests
 pub mod Query
 pub mod Fault
@@ -7,6 +9,9 @@ pub mod Typing
 pub mod Core
 pub mod Derives
 pub mod Ending
+pub mod Notation
+pub mod Noted
+pub mod NotedEnding
 pub mod Laws
 pub mod Brings
 pub mod Labels
