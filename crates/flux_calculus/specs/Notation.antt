@@ -18,14 +18,14 @@ pub record Notation (N M : Type 0) : Type 0 where
   pub put_same : (fs : List (Frame N)) (w : Plain) (m : M) → erase (put_in fs w m).0 ≡ w
 
 module _ {N M : Type 0} (notation : Notation N M) where
-  -- no tree put in or taken out changes nothing
-  abbrev pub inserted : List (Frame N) → Plain → M → Hedge N × M
-  inserted fs nil m = (nil, m)
-  inserted fs w m = notation.put_in fs w m
+  -- where no tree is put in, or taken out, nothing changes
+  abbrev pub insertion : List (Frame N) → Plain → M → Hedge N × M
+  insertion fs nil m = (nil, m)
+  insertion fs w m = notation.put_in fs w m
 
-  abbrev pub deleted : List (Frame N) → Hedge N → M → M
-  deleted fs nil m = m
-  deleted fs v m = notation.taken_out fs v m
+  abbrev pub deletion : List (Frame N) → Hedge N → M → M
+  deletion fs nil m = m
+  deletion fs v m = notation.taken_out fs v m
 
   -- the marks m come to be m', change after change
   pub data Later : M → M → Type 0 where
@@ -71,9 +71,10 @@ forgotten m =
 
 abbrev pub numbering : Notation ℕ Numbering
 numbering = record {
-  put_in = λ fs w m.
-      (number w m.supply,
-        with_edit (Insert (place_in fs) (number w m.supply)) (used (size w) m));
+  put_in = λ fs w m. (
+    number w m.supply,
+    with_edit (Insert (place_in fs) (number w m.supply)) (used (size w) m),
+  );
   taken_out = λ fs v m. with_edit (Delete (place_in fs) v) m;
   relabelled = λ note from to m. with_edit (Rename note from to) m;
   committed = forgotten;

@@ -12,7 +12,7 @@ use Rattle.flux_calculus.specs.Tests.{is_tree, matches}
 use Rattle.flux_calculus.specs.Query.{Query, Environment, value}
 use Rattle.flux_calculus.specs.Core.{Core, skip, nothing, both, choice, binding, snapshot, insert, delete, rename, test, children, left, right, iter, call, Proc, Procs, proc_of}
 use Rattle.flux_calculus.specs.Derives.{condition, bound_to}
-use Rattle.flux_calculus.specs.Notation.{Notation, inserted, deleted, Numbering, numbering, unedited}
+use Rattle.flux_calculus.specs.Notation.{Notation, insertion, deletion, Numbering, numbering, unedited}
 
 module _ {N M : Type 0} (notation : Notation N M) (procs : Procs) where
   mutual
@@ -48,11 +48,11 @@ module _ {N M : Type 0} (notation : Notation N M) (procs : Procs) where
       -- the value of the query, where the forest is empty
       inserts : {d : ℕ} {γ : Environment} {fs : List (Frame N)} {u : Plain} {m : M} {at : Span} →
           {q : Query} → value γ q ≡ Some u →
-          DerivesNoted d γ fs nil m (insert at q) (inserted notation fs u m).0
-          (inserted notation fs u m).1
+          DerivesNoted d γ fs nil m (insert at q) (insertion notation fs u m).0
+          (insertion notation fs u m).1
       -- nothing is left
       deletes : {d : ℕ} {γ : Environment} {fs : List (Frame N)} {v : Hedge N} {m : M} →
-          {at : Span} → DerivesNoted d γ fs v m (delete at) nil (deleted notation fs v m)
+          {at : Span} → DerivesNoted d γ fs v m (delete at) nil (deletion notation fs v m)
       -- one element gets the label, and keeps its content
       renames : {d : ℕ} {γ : Environment} {fs : List (Frame N)} {note : N} {a b : ℕ} →
           {c : Hedge N} {m : M} {at : Span} →

@@ -6,7 +6,7 @@ use Rattle.flux_trees.specs.Frame.{Frame}
 use Rattle.flux_calculus.specs.Query.{Environment}
 use Rattle.flux_calculus.specs.Core.{Core, Procs}
 use Rattle.flux_calculus.specs.Ending.{Answers, does, Ending, Gives, TooDeep, Stuck}
-use Rattle.flux_calculus.specs.Notation.{Notation, inserted, deleted}
+use Rattle.flux_calculus.specs.Notation.{Notation, insertion, deletion}
 
 -- with a forest and marks, at a call with none left, or with a forest that doesn't fit
 pub data NotedEnding (N M : Type 0) : Type 0 where
@@ -22,8 +22,8 @@ module _ {N M : Type 0} (notation : Notation N M) where
     too_deep = λ place m. NotedTooDeep place;
     stuck = λ m. NotedStuck;
     seen = erase;
-    inserted = λ fs w k m. k (inserted notation fs w m).0 (inserted notation fs w m).1;
-    deleted = λ fs v f m. f (deleted notation fs v m);
+    inserted = λ fs w k m. k (insertion notation fs w m).0 (insertion notation fs w m).1;
+    deleted = λ fs v f m. f (deletion notation fs v m);
     renamed = λ note a b f m. f (notation.relabelled note a b m);
   }
 
@@ -34,8 +34,8 @@ module _ {N M : Type 0} (notation : Notation N M) where
     too_deep = λ place m. zero;
     stuck = λ m. zero;
     seen = erase;
-    inserted = λ fs w k m. k (inserted notation fs w m).0 (inserted notation fs w m).1;
-    deleted = λ fs v f m. f (deleted notation fs v m);
+    inserted = λ fs w k m. k (insertion notation fs w m).0 (insertion notation fs w m).1;
+    deleted = λ fs v f m. f (deletion notation fs v m);
     renamed = λ note a b f m. f (notation.relabelled note a b m);
   }
 

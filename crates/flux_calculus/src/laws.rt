@@ -1,5 +1,5 @@
 // The laws of the definitions. Each function here does nothing: its contract is the law.
-ghost use Rattle.flux_calculus.specs.Laws.{DerivationIsComputed, ExcessIsComputed, DerivationIsUnique, ExcessIsUnique, DerivedIsNoExcess, DerivationGoesDeeper};
+ghost use Rattle.flux_calculus.specs.Laws.{DerivationIsComputed, ExcessIsComputed, DerivationIsUnique, ExcessIsUnique, DerivedIsNoExcess, DerivationGoesDeeper, NumberedDerivationIsComputed, NumberedDerivationIsUnique, NumbersAreErased, NumbersAreFound, EditsFollow, EditsGrow};
 ghost use Rattle.flux_calculus.specs.Typing.{TypedQueriesHaveValues, QueryTypingIsUnique};
 ghost use Rattle.flux_trees.specs.Same.{SameComputes};
 
@@ -26,6 +26,26 @@ pub fn run_is_unique()
 /// What a statement makes of a forest it makes of it with more calls to go.
 pub fn derivation_goes_deeper()
     ensures { DerivationGoesDeeper }
+{}
+
+/// Over numbered forests a statement makes a forest and edits of another by the rules exactly where
+/// the function gives them, and at most one forest with one list of edits.
+pub fn numbered_derivation_is_computed()
+    ensures computed { NumberedDerivationIsComputed }
+    ensures unique { NumberedDerivationIsUnique }
+{}
+
+/// The derivations over numbered forests are those over plain forests, but for the numbers.
+pub fn numbers_add_nothing()
+    ensures erased { NumbersAreErased }
+    ensures found { NumbersAreFound }
+{}
+
+/// The edits of a statement follow those before it. The numbers to come are always those before all
+/// edits, less as many as the edits put nodes in.
+pub fn edits_grow()
+    ensures follow { EditsFollow }
+    ensures grow { EditsGrow }
 {}
 
 /// Where each variable is bound to a member of its type, a query of a type has a value, and the

@@ -8,6 +8,7 @@ mod laws;
 
 pub use ask::{Span, Test, Var};
 pub use laws::{
-    derivation_goes_deeper, derivation_is_computed, equality_computes, excess_is_computed,
+    derivation_goes_deeper, derivation_is_computed, edits_grow, equality_computes,
+    excess_is_computed, numbered_derivation_is_computed, numbers_add_nothing,
     query_typing_is_unique, run_is_unique, typed_queries_have_values,
 };
