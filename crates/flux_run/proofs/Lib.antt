@@ -1,0 +1,6 @@
+pub mod Binding
+pub mod Fitting
+pub mod Starting
+pub mod Turns
+pub mod Whole
+pub mod Working

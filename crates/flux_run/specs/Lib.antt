@@ -1,0 +1,5 @@
+pub mod Machine
+pub mod Running
+pub mod Tasks
+pub mod Passing
+pub mod Refusals
