@@ -1,0 +1,5 @@
+pub mod Focused
+pub mod Layout
+pub mod Moves
+pub mod Next
+pub mod PlainStates
