@@ -40,14 +40,6 @@ impl<'a> View<'a> {
     ghost use Rattle.flux_forest.specs.View.{forest_of};
     ghost use Rattle.flux_forest.specs.Heads.{IsHead, IsFirst};
 
-    /// The trees of nodes in document order.
-    pub fn of_nodes(nodes: &'a [Node]) -> View<'a>
-        requires { IsFlat nodes.now }
-        ensures { forest_of result ≡ hedge_of nodes.entry.now }
-    {
-        View { nodes }
-    }
-
     /// The nodes of the trees, in document order.
     pub fn nodes(self) -> &'a [Node]
         ensures flat { IsFlat result.now }

@@ -1,3 +1,4 @@
+pub mod LookLaws
 pub mod LayoutLaws
 pub mod RunLaws
 pub mod MoveLaws

@@ -2,6 +2,7 @@
 //! before each change.
 #![tactic(auto)]
 
+mod look;
 mod next;
 mod plain;
 mod runs;

@@ -4,10 +4,11 @@ ghost use Rattle.flux_trees.specs.Draft.{depth, outer};
 ghost use Rattle.flux_plain.specs.Moves.{state, all_of, whole};
 ghost use Rattle.flux_plain.specs.PlainStates.{state_of};
 
+use crate::look::look_at;
 use crate::zipper::Zipper;
-use flux_atom::{Name, kind};
+use flux_atom::Name;
 use flux_editor::{Editor, Look, Mark};
-use flux_forest::{Forest, Head, View};
+use flux_forest::{Forest, View};
 use std::alloc::{AllocError, Global};
 
 /// An editor of a document with nothing noted on its nodes. A change takes as many steps as the
@@ -69,12 +70,7 @@ impl Editor for PlainEditor {
     ghost state = { state_of };
 
     fn look(&self) -> Look {
-        match self.current.view().head() {
-            Head::Nothing => Look::Nothing,
-            Head::Elem(name) => Look::Elem(name),
-            Head::Atom(atom) => Look::Atom(kind(atom)),
-            Head::Many => Look::Many,
-        }
+        look_at(self.current.nodes())
     }
 
     fn down(&mut self) -> Result<(), AllocError> {
@@ -122,7 +118,7 @@ impl Editor for PlainEditor {
     }
 
     fn delete(&mut self) -> Result<(), AllocError> {
-        if self.current.view().is_empty() {
+        if self.current.nodes().is_empty() {
             return Ok(());
         }
         remember(&mut self.earlier, &self.current)?;

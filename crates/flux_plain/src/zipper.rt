@@ -2,6 +2,7 @@
 ghost use Rattle.std.specs.Prelude.{◌≡◌, ◌↔◌, [], IsTrue, OnOk, IfOk, OnErr, Ok, true, false};
 ghost use Rattle.flux_trees.specs.Hedge.{nil, IsElement};
 ghost use Rattle.flux_trees.specs.Draft.{done, depth, outer};
+ghost use Rattle.flux_forest.specs.Flat.{hedge_of, IsFlat};
 ghost use Rattle.flux_forest.specs.View.{forest_of};
 ghost use Rattle.flux_plain.specs.Moves.{all_of, whole, with_focus, Is, Becomes, Relabelled, HasFrame, SteppedBack};
 ghost use Rattle.flux_editor.specs.Editing.{IsDown, IsBeside, IsEach, IsAtLast, WentDown, CameUp, WentLeft, WentRight, Widened, WentToFirst, WentToNext, Gathered};
@@ -65,18 +66,21 @@ impl Zipper {
         })
     }
 
-    /// The trees in the focus.
-    pub fn view(&self) -> View<'_>
-        ensures { forest_of result ≡ self.now.focus }
+    /// The nodes of the trees in the focus, in document order.
+    pub fn nodes(&self) -> &[Node]
+        ensures flat { IsFlat result.now }
+        ensures same { hedge_of result.now ≡ self.now.focus }
     {
-        View::of_nodes(&self.left[self.start..])
+        &self.left[self.start..]
     }
 
     /// A copy of the trees in the focus.
     pub fn trees(&self) -> Result<Forest, AllocError>
         ensures { IfOk result (λ forest. forest ≡ done self.now.focus) }
     {
-        self.view().copy(*self.left.allocator())
+        let mut nodes = Vec::new(*self.left.allocator());
+        push_copies(&mut nodes, self.nodes())?;
+        Ok(Forest::from_nodes(nodes))
     }
 
     /// Goes into the one element that the focus is.
