@@ -1,6 +1,6 @@
 -- What fits where a run isn't stuck.
-use Rattle.std.proofs.Common.{◌≡◌, ◌≢◌, ◌⊎◌, inl, inr, ◌∙◌, refl, sym, ap, subst, ℕ, zero, suc, ◌<◌, arith, Bool, true, false, List, [], ◌∷◌, Option, Some, None, IsSome, if◌then◌else◌}
-use Rattle.flux_trees.specs.Hedge.{Hedge, Plain, nil, elem, leaf, join, IsElement}
+use Rattle.std.proofs.Common.{◌≡◌, ◌≢◌, ◌⊎◌, inl, inr, refl, subst, ℕ, zero, suc, ◌<◌, arith, Bool, true, false, List, [], ◌∷◌, Option, Some, None, IsSome, if◌then◌else◌}
+use Rattle.flux_trees.specs.Hedge.{Hedge, Plain, nil, elem, leaf, IsElement}
 use Rattle.flux_trees.specs.Frame.{Frame, Down, Before, After, Each}
 use Rattle.flux_calculus.specs.declared.ask.Test.{Test}
 use Rattle.flux_calculus.specs.declared.ask.Var.{Var}
@@ -9,7 +9,7 @@ use Rattle.flux_calculus.specs.Tests.{is_tree}
 use Rattle.flux_calculus.specs.Query.{Query, Environment, value}
 use Rattle.flux_calculus.specs.Core.{Core, choice, binding, insert, rename, test, children, call, Proc, Procs, proc_of}
 use Rattle.flux_calculus.specs.Derives.{condition, bound_to}
-use Rattle.flux_calculus.specs.Ending.{Goes, on_truth, on_value, on_insert, on_rename, on_test, on_content, on_proc, on_bound, goes, calls_at, does}
+use Rattle.flux_calculus.specs.Ending.{Goes, on_truth, on_value, on_insert, on_rename, on_content, on_proc, on_bound, goes, calls_at, does}
 use Rattle.flux_calculus.specs.Notation.{Notation}
 use Rattle.flux_calculus.specs.NotedEnding.{NotedEnding, GivesNoted, NotedTooDeep, NotedStuck, noted_endings}
 use Rattle.flux_editor.specs.Editing.{State, IsDown, IsBeside, IsEach}

@@ -1,4 +1,5 @@
 pub mod Binding
+pub mod CaseLaws
 pub mod Fitting
 pub mod Starting
 pub mod Turns

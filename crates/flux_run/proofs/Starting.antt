@@ -1,5 +1,5 @@
 -- Each statement begins by a step of the run.
-use Rattle.std.proofs.Common.{◌≡◌, ◌⊎◌, inl, inr, ◌∙◌, refl, sym, ap, subst, ℕ, ◌<◌, Bool, true, false, List, [], ◌∷◌, Some, map}
+use Rattle.std.proofs.Common.{◌≡◌, ◌⊎◌, inl, inr, ◌∙◌, refl, sym, ap, ℕ, ◌<◌, true, false, List, [], ◌∷◌, Some, map}
 use Rattle.flux_trees.specs.Hedge.{Hedge, Plain, nil, elem, leaf, erase}
 use Rattle.flux_calculus.specs.declared.ask.Test.{Test}
 use Rattle.flux_calculus.specs.declared.ask.Var.{Var}

@@ -1,10 +1,8 @@
 -- Each step of a run: it ends as before, with a step less to go.
-use Rattle.std.proofs.Common.{◌≡◌, ◌≢◌, ◌⊎◌, inl, inr, ◌∙◌, refl, sym, ap, ap₂, subst, ℕ, zero, suc, ◌<◌, ◌-◌, arith, Bool, true, false, List, [], ◌∷◌, ◌++◌, length, drop, append_assoc, Option, Some, None}
+use Rattle.std.proofs.Common.{◌≡◌, inl, inr, ◌∙◌, refl, sym, ap, ℕ, zero, suc, ◌<◌, ◌-◌, arith, true, false, List, [], ◌∷◌, ◌++◌, drop, Some}
 use Rattle.std.proofs.lemmas.List.{append-nil}
-use Rattle.flux_atom.specs.declared.atom.Atom.{Atom}
 use Rattle.flux_trees.specs.Hedge.{Hedge, Plain, nil, elem, leaf, join, first, others, erase}
 use Rattle.flux_trees.specs.Frame.{Frame, Down, Before, After, Each, plug}
-use Rattle.flux_trees.proofs.HedgeLaws.{join-nil, join-first}
 use Rattle.flux_trees.proofs.EditLaws.{plug-right, plug-next, plug-gather}
 use Rattle.flux_calculus.specs.declared.ask.Test.{Test}
 use Rattle.flux_calculus.specs.declared.ask.Var.{Var}
@@ -13,14 +11,11 @@ use Rattle.flux_calculus.specs.Tests.{is_tree, matches}
 use Rattle.flux_calculus.specs.Query.{Query, Environment, value}
 use Rattle.flux_calculus.specs.Core.{Core, skip, nothing, both, choice, binding, snapshot, insert, delete, rename, test, children, left, right, iter, call, Proc, Procs, proc_of}
 use Rattle.flux_calculus.specs.Derives.{condition, bound_to}
-use Rattle.flux_calculus.specs.Ending.{Answers, Goes, on_truth, on_value, on_test, on_proc, goes, calls_at, does}
-use Rattle.flux_calculus.specs.Notation.{Notation, insertion, deletion, Later, now, put, taken, labelled}
-use Rattle.flux_calculus.specs.NotedEnding.{NotedEnding, GivesNoted, NotedTooDeep, NotedStuck, noted_endings, step_counts}
-use Rattle.flux_calculus.proofs.Growing.{later-insertion, later-deletion}
+use Rattle.flux_calculus.specs.Notation.{Notation, Later, now, put, taken, labelled}
 use Rattle.flux_editor.specs.Editing.{Moment, State, past, moved, changed, WentDown, CameUp, WentLeft, WentRight, Widened, WentToFirst, WentToNext, IsAtLast, Gathered, after_insert, deleted_from, after_delete, Renamed}
 use Rattle.flux_editor.specs.Editing as editing
-use Rattle.flux_run.specs.Machine.{Task, Do, Up, Widen, Again, Unbind, Return, Left, before, binding_first, calling, resume, outer, below, AreBound}
-use Rattle.flux_run.specs.Running.{Continues, comes_to, steps, Safe, Turn}
+use Rattle.flux_run.specs.Machine.{Task, Do, Up, Widen, Again, Unbind, Return, Left, before, binding_first, calling}
+use Rattle.flux_run.specs.Running.{Continues, Turn}
 
 module _ {N M : Type 0} (notation : Notation N M) where
   -- ---- what goes on

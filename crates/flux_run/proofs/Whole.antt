@@ -1,5 +1,5 @@
 -- Whole runs: how they begin, what each step hands on, how they end, and that they can be taken back.
-use Rattle.std.proofs.Common.{◌≡◌, ◌≢◌, ◌⊎◌, inl, inr, ◌∙◌, refl, sym, ap, ap₂, subst, ℕ, suc, List, [], ◌∷◌, ◌++◌, length, take, append_assoc, length-append, arith, false, Result, Ok, Err}
+use Rattle.std.proofs.Common.{◌≡◌, ◌∙◌, refl, sym, ap, ap₂, subst, ℕ, suc, List, [], ◌∷◌, ◌++◌, length, take, append_assoc, length-append, arith, false, Result, Ok, Err}
 use Rattle.std.specs.Result.{OnOk, OnErr, is_err}
 use Rattle.std.proofs.lemmas.List.{take_at}
 use Rattle.flux_trees.specs.Hedge.{Hedge, Plain, erase}
@@ -7,8 +7,8 @@ use Rattle.flux_trees.specs.Frame.{Frame, plug}
 use Rattle.flux_calculus.specs.Query.{Environment}
 use Rattle.flux_calculus.specs.Core.{Core, Procs}
 use Rattle.flux_calculus.specs.Derives.{Derives, Exceeds}
-use Rattle.flux_calculus.specs.Notation.{Notation, Later}
-use Rattle.flux_calculus.specs.NotedEnding.{NotedEnding, GivesNoted, NotedTooDeep, NotedStuck}
+use Rattle.flux_calculus.specs.Notation.{Notation}
+use Rattle.flux_calculus.specs.NotedEnding.{NotedEnding, GivesNoted, NotedTooDeep}
 use Rattle.flux_calculus.proofs.Agree.{never_both, exceeds_one}
 use Rattle.flux_calculus.proofs.NotedAgree.{gives-noted}
 use Rattle.flux_calculus.proofs.Erased.{noted-derives, noted-deep, noted-never-stuck}

@@ -1,5 +1,5 @@
 -- The steps that are no beginning of a statement.
-use Rattle.std.proofs.Common.{◌≡◌, ◌⊎◌, inl, inr, refl, ap, subst, ℕ, drop}
+use Rattle.std.proofs.Common.{◌≡◌, ◌⊎◌, inl, inr, ℕ, drop}
 use Rattle.flux_calculus.specs.Query.{Environment}
 use Rattle.flux_calculus.specs.Core.{Core, Procs}
 use Rattle.flux_calculus.specs.Notation.{Notation}

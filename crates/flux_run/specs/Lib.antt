@@ -3,3 +3,4 @@ pub mod Running
 pub mod Tasks
 pub mod Passing
 pub mod Refusals
+pub mod Cases

@@ -1,6 +1,6 @@
 -- A run over an editor: how it ends from a moment on, what a step keeps, and what comes of it all.
-use Rattle.std.specs.Prelude.{◌≡◌, ◌≢◌, ◌⊎◌, ℕ, zero, suc, List, [], ◌∷◌, ◌++◌}
-use Rattle.flux_trees.specs.Hedge.{Hedge, Plain, erase}
+use Rattle.std.specs.Prelude.{◌≡◌, ◌≢◌, ◌⊎◌, ℕ, zero, suc, List, ◌++◌}
+use Rattle.flux_trees.specs.Hedge.{Plain, erase}
 use Rattle.flux_calculus.specs.Query.{Environment}
 use Rattle.flux_calculus.specs.Core.{Core, Procs}
 use Rattle.flux_calculus.specs.Derives.{Derives, Exceeds}

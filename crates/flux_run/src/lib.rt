@@ -12,3 +12,6 @@ mod steps;
 
 pub use fault::RunFault;
 pub use runs::{perform, run};
+
+#[cfg(test)]
+mod tests;

@@ -1,4 +1,4 @@
-use Rattle.std.proofs.Common.{◌≡◌, ◌-◌, ◌∷◌, ◌∙◌, refl, sym, ap, subst, ◌≤◌, ◌<◌, arith, Some, IsSome}
+use Rattle.std.proofs.Common.{◌-◌, ◌∷◌, ◌∙◌, refl, sym, ap, subst, arith, Some, IsSome}
 use Rattle.flux_trees.specs.Draft.{outer}
 use Rattle.flux_core.specs.declared.param.Param.{Param}
 use Rattle.flux_calculus.specs.Query.{value}

@@ -1,4 +1,4 @@
-use Rattle.std.proofs.Common.{◌≡◌, ◌∙◌, refl, sym, ap, ◌∷◌}
+use Rattle.std.proofs.Common.{◌≡◌, ◌∙◌, sym, ap, ◌∷◌}
 use Rattle.flux_core.specs.Statements.{core_of, procs_of}
 use Rattle.flux_run.specs.Machine.{Do, before}
 use Rattle.flux_run.specs.Running.{comes_to}

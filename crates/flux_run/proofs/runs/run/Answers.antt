@@ -1,4 +1,4 @@
-use Rattle.std.proofs.Common.{◌≡◌, ◌∙◌, sym, ap}
+use Rattle.std.proofs.Common.{◌∙◌, sym, ap}
 use Rattle.flux_run.proofs.Whole.{taken_back, no_error, an_error}
 use Rattle.flux_run.proofs.runs.run.Goals as goal
 use Rattle.flux_run.proofs.runs.run.Goals.{then-is_err, else-is_err}

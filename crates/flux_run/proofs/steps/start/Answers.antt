@@ -1,4 +1,4 @@
-use Rattle.std.proofs.Common.{◌≡◌, ◌∙◌, refl, sym, ap, arith}
+use Rattle.std.proofs.Common.{◌∙◌, refl, sym, ap, arith}
 use Rattle.flux_calculus.specs.Core.{in_order}
 use Rattle.std.proofs.Common.{map}
 use Rattle.flux_core.specs.Statements.{core_of, procs_of}

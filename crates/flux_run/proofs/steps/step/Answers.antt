@@ -1,5 +1,5 @@
-use Rattle.std.proofs.Common.{◌≡◌, refl, ap, subst}
-use Rattle.flux_core.specs.Statements.{core_of, procs_of}
+use Rattle.std.proofs.Common.{refl, ap, subst}
+use Rattle.flux_core.specs.Statements.{procs_of}
 use Rattle.flux_run.specs.Machine.{before}
 use Rattle.flux_run.specs.Running.{Safe}
 use Rattle.flux_run.specs.Tasks.{task_of, left_of}
