@@ -1,8 +1,9 @@
-pub mod LookLaws
-pub mod LayoutLaws
-pub mod RunLaws
-pub mod MoveLaws
 pub mod BackLaws
-pub mod NextLaws
 pub mod FrameLaws
+pub mod LabelLaws
+pub mod LayoutLaws
+pub mod LookLaws
+pub mod MoveLaws
+pub mod NextLaws
 pub mod PastLaws
+pub mod RunLaws

@@ -4,7 +4,7 @@ use Rattle.std.proofs.lemmas.List.{reverse-append, append-nil, get_or-append-add
 use Rattle.std.proofs.Math.ListN.{set, get_or}
 use Rattle.std.proofs.Math.Seq.{set-append_seam, get_or-append_seam, take-append_seam, drop-append_seam, take-length}
 use Rattle.flux_trees.specs.Hedge.{Plain, nil, elem, leaf, size, first, others, IsElement}
-use Rattle.flux_trees.specs.Frame.{Down, Before, After, Each}
+use Rattle.flux_trees.specs.Frame.{Down, Before, After, Each, plug}
 use Rattle.flux_trees.proofs.HedgeLaws.{join-first, size-first}
 use Rattle.flux_forest.specs.declared.node.Item.TheVariants.{Element}
 use Rattle.flux_forest.specs.declared.node.Node.{Node}
@@ -14,9 +14,11 @@ use Rattle.flux_forest.proofs.ViewLaws.{size-zero, AreNodes}
 use Rattle.flux_plain.specs.declared.step.Step.{Step}
 use Rattle.flux_plain.specs.declared.step.Step.TheVariants.{Down as DownStep, Before as BeforeStep, After as AfterStep, Each as EachStep}
 use Rattle.flux_plain.specs.Focused.{PlainFrame, Focused}
-use Rattle.flux_plain.specs.Layout.{before, IsLaid, HasMoved}
+use Rattle.flux_plain.specs.Layout.{before, behind, steps_of, IsLaid, HasMoved}
 use Rattle.flux_editor.specs.Editing.{WentDown, WentLeft, WentRight, WentToFirst}
-use Rattle.flux_plain.specs.Moves.{Becomes, with_focus, all_of, Relabelled}
+use Rattle.flux_plain.specs.Moves.{Becomes, with_focus, all_of, whole, Relabelled, relabelled}
+use Rattle.flux_plain.specs.NodeLabels.{relabelled_nodes}
+use Rattle.flux_plain.proofs.LabelLaws.{flat-relabelled}
 use Rattle.flux_plain.proofs.LayoutLaws.{Went}
 use Rattle.flux_plain.proofs.RunLaws.{moved_right}
 
@@ -206,3 +208,19 @@ focus_nodes {d} {left} {start = start} i nodes e =
     let back : drop start nodes ≡ flat d.focus = ap (drop start) e ∙ ap₂ drop i.start_is i.left_is ∙ drop-append_seam (before d.frames) (flat d.focus) in
     let long : length nodes - start ≡ length (flat d.focus) = omega (arith, focus_length i, length-flat d.focus, ap length e) in
     record { same = ap₂ take long back ∙ take-length (flat d.focus) }
+
+-- the nodes of a whole document, one of which has another label
+pub went_relabel : {d : Focused} {left right : List Node} {steps : List Step} {start : ℕ} → IsLaid d left right steps start → d.frames ≡ [] → (place b : ℕ) (new_left : List Node) → new_left ≡ relabelled_nodes place b left →
+    Went (λ old new. new ≡ all_of (relabelled place b (whole old))) d new_left right steps start
+went_relabel {d} {left} i none place b new_left e =
+    let all : left ≡ flat (whole d) = i.left_is ∙ ap (λ fs. before fs ++ flat d.focus) none ∙ ap (λ fs. flat (plug fs d.focus)) (sym none) in
+    record {
+      new = all_of (relabelled place b (whole d));
+      how = refl;
+      at = record {
+        left_is = e ∙ ap (relabelled_nodes place b) all ∙ sym (flat-relabelled place b (whole d));
+        right_is = i.right_is ∙ ap behind none;
+        steps_are = i.steps_are ∙ ap steps_of none;
+        start_is = i.start_is ∙ ap (λ fs. length (before fs)) none;
+      };
+    }

@@ -1,6 +1,6 @@
 -- How a focus moves in a plain document, in the words of editors.
-use Rattle.std.specs.Prelude.{◌≡◌, ℕ, List, [], ◌∷◌}
-use Rattle.flux_trees.specs.Hedge.{Plain, nil, elem}
+use Rattle.std.specs.Prelude.{◌≡◌, ℕ, zero, suc, ◌-◌, nat_lt, List, [], ◌∷◌, if◌then◌else◌}
+use Rattle.flux_trees.specs.Hedge.{Plain, nil, elem, leaf, size}
 use Rattle.flux_trees.specs.Frame.{framed, plug}
 use Rattle.flux_editor.specs.Editing.{State, Moment}
 use Rattle.flux_plain.specs.Focused.{PlainFrame, Focused}
@@ -49,3 +49,13 @@ abbrev pub SteppedBack : Focused → Focused → Type 0
 SteppedBack old new =
     (f : PlainFrame) × (fs : List PlainFrame) × (old.frames ≡ f ∷ fs)
     × (new ≡ record { frames = fs; focus = framed f old.focus })
+
+-- the node at a place, counted from 0 in document order, has the label b, if it is an element
+abbrev pub relabelled : ℕ → ℕ → Plain → Plain
+relabelled i b nil = nil
+relabelled zero b (elem m a c r) = elem m b c r
+relabelled (suc i) b (elem m a c r) =
+    if nat_lt i (size c) then elem m a (relabelled i b c) r
+    else elem m a c (relabelled (i - size c) b r)
+relabelled zero b (leaf m x r) = leaf m x r
+relabelled (suc i) b (leaf m x r) = leaf m x (relabelled i b r)

@@ -2,6 +2,8 @@
 //! before each change.
 #![tactic(auto)]
 
+mod earlier;
+mod label;
 mod look;
 mod next;
 mod plain;

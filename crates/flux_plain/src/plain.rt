@@ -1,9 +1,10 @@
 // An editor that keeps the whole document before each change.
-ghost use Rattle.std.specs.Prelude.{◌≡◌, ◌≤◌, suc, [], ◌∷◌, ◌++◌, length, take, IfOk, OnOk, OnErr};
+ghost use Rattle.std.specs.Prelude.{◌≡◌, [], IfOk};
 ghost use Rattle.flux_trees.specs.Draft.{depth, outer};
-ghost use Rattle.flux_plain.specs.Moves.{state, all_of, whole};
+ghost use Rattle.flux_plain.specs.Moves.{state, all_of};
 ghost use Rattle.flux_plain.specs.PlainStates.{state_of};
 
+use crate::earlier::{Earlier, go_back, remember, remember_label};
 use crate::look::look_at;
 use crate::zipper::Zipper;
 use flux_atom::Name;
@@ -11,12 +12,13 @@ use flux_editor::{Editor, Look, Mark};
 use flux_forest::{Forest, View};
 use std::alloc::{AllocError, Global};
 
-/// An editor of a document with nothing noted on its nodes. A change takes as many steps as the
-/// document has nodes, since it keeps a copy of it to go back to.
+/// An editor of a document with nothing noted on its nodes. An insertion or a deletion takes as many
+/// steps as the document has nodes, since it keeps a copy of it to go back to; of a renaming it
+/// keeps the label alone.
 #[derive(Drop)]
 pub struct PlainEditor {
     // the document before each change since the last commit
-    earlier: Vec<Zipper>,
+    earlier: Vec<Earlier>,
     current: Zipper,
 }
 
@@ -30,30 +32,6 @@ impl PlainEditor {
             earlier: Vec::new(alloc),
             current: Zipper::over(document)?,
         })
-    }
-}
-
-// Keeps a copy of the document, as it is before a change.
-fn remember(earlier: &mut Vec<Zipper>, document: &Zipper) -> Result<(), AllocError>
-    ensures ok { OnOk result
-        (earlier.new.items ≡ earlier.old.items ++ all_of (whole document.now) ∷ []) }
-    ensures err { OnErr result (earlier.new.items ≡ earlier.old.items) }
-{
-    earlier.push(document.copy()?)?;
-    Ok(())
-}
-
-// Goes back to the document after so many changes, and keeps those before it.
-fn go_back(earlier: &mut Vec<Zipper>, current: &mut Zipper, changes: usize)
-    requires { changes ≤ length earlier.old.items }
-    ensures { earlier.new.items ++ current.new ∷ []
-        ≡ take (suc changes) (earlier.old.items ++ current.old ∷ []) }
-{
-    if changes < earlier.len() {
-        earlier.truncate(changes + 1);
-        if let Some(document) = earlier.pop() {
-            *current = document;
-        }
     }
 }
 
@@ -127,7 +105,7 @@ impl Editor for PlainEditor {
     }
 
     fn rename(&mut self, name: Name) -> Result<(), AllocError> {
-        remember(&mut self.earlier, &self.current)?;
+        remember_label(&mut self.earlier, &self.current)?;
         self.current.rename(name);
         Ok(())
     }

@@ -106,7 +106,8 @@ fn put_behind(editor: &mut PlainEditor, trees: View<'_>) -> Result<(), AllocErro
 }
 
 fn rename(editor: &mut PlainEditor, name: Name) -> Result<(), AllocError>
-    ensures { OnOk result ((state_of editor.new).frames ≡ (state_of editor.old).frames) }
+    ensures frames { OnOk result ((state_of editor.new).frames ≡ (state_of editor.old).frames) }
+    ensures earlier { length (state_of editor.old).earlier ≤ length (state_of editor.new).earlier }
 {
     match editor.look() {
         Look::Elem(_) => editor.rename(name),
@@ -160,6 +161,17 @@ fn committed(editor: &mut PlainEditor, trees: View<'_>) -> Result<(), AllocError
     taken_back(editor, trees)
 }
 
+// Renamed and then deleted, and all of it taken back.
+fn renamed_back(editor: &mut PlainEditor, name: Name) -> Result<(), AllocError>
+    requires { (state_of editor.old).frames ≡ [] }
+{
+    let mark = editor.mark();
+    rename(editor, name)?;
+    clear(editor)?;
+    editor.rollback(mark);
+    Ok(())
+}
+
 // What is done to the document.
 #[derive(Clone, Copy)]
 enum Way {
@@ -168,6 +180,7 @@ enum Way {
     BehindEach,
     Renamed,
     TakenBack,
+    RenamedBack,
     Committed,
 }
 
@@ -180,6 +193,7 @@ fn go(editor: &mut PlainEditor, way: Way, trees: View<'_>, name: Name) -> Result
         Way::BehindEach => behind_each(editor, trees),
         Way::Renamed => rename(editor, name),
         Way::TakenBack => taken_back(editor, trees),
+        Way::RenamedBack => renamed_back(editor, name),
         Way::Committed => committed(editor, trees),
     }
 }
@@ -204,6 +218,7 @@ fn moves_and_edits(rt: HostRuntime) -> Result<(), Fail> {
         (Way::BehindEach, "xzyz"),
         (Way::Renamed, "b[xy]"),
         (Way::TakenBack, "a[xy]z"),
+        (Way::RenamedBack, "a[xy]"),
         (Way::Committed, "za[xy]z"),
     ] {
         assert_eq!(rt; text_after(alloc, way)?.as_str(), text);

@@ -1,12 +1,14 @@
 // A document with a focus, as a gap buffer of nodes.
-ghost use Rattle.std.specs.Prelude.{◌≡◌, ◌↔◌, [], IsTrue, OnOk, IfOk, OnErr, Ok, true, false};
-ghost use Rattle.flux_trees.specs.Hedge.{nil, IsElement};
+ghost use Rattle.std.specs.Prelude.{◌≡◌, ◌↔◌, ℕ, [], length, Some, IsTrue, OnOk, IfOk, OnErr, Ok, true, false};
+ghost use Rattle.flux_trees.specs.Hedge.{Plain, nil, elem, IsElement};
 ghost use Rattle.flux_trees.specs.Draft.{done, depth, outer};
 ghost use Rattle.flux_forest.specs.Flat.{hedge_of, IsFlat};
 ghost use Rattle.flux_forest.specs.View.{forest_of};
-ghost use Rattle.flux_plain.specs.Moves.{all_of, whole, with_focus, Is, Becomes, Relabelled, HasFrame, SteppedBack};
+ghost use Rattle.flux_plain.specs.Layout.{before};
+ghost use Rattle.flux_plain.specs.Moves.{all_of, whole, relabelled, with_focus, Is, Becomes, Relabelled, HasFrame, SteppedBack};
 ghost use Rattle.flux_editor.specs.Editing.{IsDown, IsBeside, IsEach, IsAtLast, WentDown, CameUp, WentLeft, WentRight, Widened, WentToFirst, WentToNext, Gathered};
 
+use crate::label::{label_of, relabel};
 use crate::next::take_next;
 use crate::runs::{make_room, move_nodes};
 use crate::step::Step;
@@ -203,6 +205,30 @@ impl Zipper {
     {
         let start = self.start;
         self.left[start].item = Item::Element(name);
+    }
+
+    /// The place of the first node in the focus: how many nodes stand before it in the document.
+    pub fn place(&self) -> usize
+        ensures { result ≡ length (before self.now.frames) }
+    {
+        self.start
+    }
+
+    /// The label of the one element that the focus is.
+    pub fn label(&self) -> Option<Name>
+        requires { IsElement self.now.focus }
+        ensures { (a : ℕ) (w : Plain) → self.now.focus ≡ elem tt a w nil → result ≡ Some a }
+    {
+        label_of(&self.left[self.start])
+    }
+
+    /// Gives the node at a place another label, if it is an element. All of the document is in the
+    /// focus.
+    pub fn relabel(&mut self, place: usize, label: Name)
+        requires { self.old.frames ≡ [] }
+        ensures { self.new ≡ all_of (relabelled place label (whole self.old)) }
+    {
+        relabel(&mut self.left, place, label);
     }
 
     /// Leaves all frames: all of the document is in the focus.

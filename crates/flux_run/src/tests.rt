@@ -437,10 +437,11 @@ fn goes_as_deep_as_it_has_calls(rt: HostRuntime) -> Result<(), Fail> {
     let a = names.intern("a")?;
     let b = names.intern("b")?;
     for (way, levels, calls, place, renamed) in [
-        (Way::Stripped, 1_000, 1_001, None, true),
+        (Way::Stripped, 999, 1_000, None, true),
         (Way::Stripped, 1_000, 1_000, Some(7), false),
-        (Way::Sought, 99_999, 100_000, None, false),
-        (Way::Sought, 100_000, 100_000, Some(7), false),
+        (Way::Stripped, 99_999, 100_000, None, true),
+        (Way::Stripped, 100_000, 100_000, Some(7), false),
+        (Way::Sought, 100_000, 100_001, None, false),
     ] {
         let tower = Tower {
             way,
