@@ -1,8 +1,8 @@
 -- Items of lists by their places.
-use Rattle.std.proofs.Common.{◌≡◌, ◌⊎◌, ℕ, zero, suc, ◌<◌, List, [], ◌∷◌, ◌++◌, length, Some, slice_get, refl, ap, subst, ◌∙◌, inl, inr, arith}
+use Rattle.std.proofs.Common.{◌≡◌, ◌⊎◌, ℕ, zero, suc, ◌<◌, List, [], ◌∷◌, ◌++◌, length, Some, slice_get, get_or, refl, sym, ap, subst, ◌∙◌, inl, inr, arith}
 use Rattle.std.proofs.Math.ListN.{set}
-use Rattle.std.proofs.lemmas.Option.{slice_get_within}
-use Rattle.flux_auto.specs.Arcs.{Has}
+use Rattle.std.proofs.lemmas.Option.{slice_get_within, slice_get-get_or}
+use Rattle.flux_auto.specs.Going.{Has}
 
 pub get-append : {A : Type 0} (xs ys : List A) (i : ℕ) → i < length xs → slice_get (xs ++ ys) i ≡ slice_get xs i
 get-append [] ys i h = absurd (omega (arith, h))
@@ -67,3 +67,13 @@ has-nil x (k, e) = cc
 
 pub has-none : {X : Type 0} (xs : List X) (x : X) → xs ≡ [] → Has xs x → ⊥
 has-none xs x e h = has-nil x (subst (λ l. Has l x) e h)
+
+-- the item that was read
+pub read_is : {X : Type 0} (xs : List X) (i : ℕ) (x d : X) → i < length xs → x ≡ get_or xs i d → slice_get xs i ≡ Some x
+read_is xs i x d h e = slice_get-get_or xs i d h ∙ ap Some (sym e)
+
+-- nothing changes where an item is put in its own place
+pub set-same : {X : Type 0} (xs : List X) (i : ℕ) (x : X) → slice_get xs i ≡ Some x → set xs i x ≡ xs
+set-same [] i x e = refl
+set-same (y ∷ xs) zero x e = ap (λ z. z ∷ xs) (sym (some_is y x e))
+set-same (y ∷ xs) (suc i) x e = ap (λ l. y ∷ l) (set-same xs i x e)

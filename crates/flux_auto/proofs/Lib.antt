@@ -1,5 +1,6 @@
 pub mod Items
 pub mod SetLaws
+pub mod Blocks
 pub mod Lists
 pub mod Tables
 pub mod Growing
@@ -11,6 +12,7 @@ pub mod Tasks
 pub mod Closing
 pub mod Making
 pub mod Meaning
+pub mod GoingLaws
 pub mod ArcLaws
 pub mod Adding
 pub mod Folding

@@ -1,5 +1,5 @@
 -- Sets as the bits of words, and what changes them.
-use Rattle.std.proofs.Common.{◌≡◌, ℕ, zero, suc, ◌+◌, ◌*◌, ◌/◌, ◌%◌, ◌^◌, ◌<◌, ◌≤◌, ◌==◌, List, [], ◌∷◌, ◌++◌, length, get_or, replicate, Bool, true, false, refl, sym, ap, ap₂, subst, ◌∙◌, inl, inr, arith, w64, length-append}
+use Rattle.std.proofs.Common.{◌≡◌, ℕ, zero, suc, ◌+◌, ◌*◌, ◌/◌, ◌%◌, ◌^◌, ◌<◌, ◌≤◌, ◌==◌, ◌||◌, List, [], ◌∷◌, ◌++◌, length, get_or, replicate, Bool, true, false, refl, sym, ap, ap₂, subst, ◌∙◌, inl, inr, arith, w64, length-append}
 use Rattle.std.specs.Prelude.{bit_and, bit_or, Decides}
 use Rattle.std.specs.Bool.{beq}
 use Rattle.std.specs.Cmp.{both_ways, booleans_Decides}
@@ -13,23 +13,44 @@ use Rattle.std.proofs.lemmas.Nat.{or_lt}
 use Rattle.std.proofs.lemmas.Nat.Bits.{bit_at-lt, bit_at_lowest, bit_at-suc, bit_at-zero, shr_and_one, bit_at_set_same, bit_at_set_other, same_from_bits_below}
 use Rattle.flux_atom.proofs.Plain.{same_or_not}
 use Rattle.flux_auto.specs.Takes.{has}
-use Rattle.flux_auto.specs.Set.{flag, flags, IsPacked, digit, word, words_from, words_of}
+use Rattle.flux_auto.specs.declared.block.Block.{Block}
+use Rattle.flux_auto.specs.Set.{told, in_block, with_block, flag, flags, IsPacked, digit, word, words_from, words_of}
 use Rattle.flux_auto.proofs.Growing.{below_or_not}
+
+-- ---- what a test tells of the numbers below a count
+
+pub length-told : (f : ℕ → Bool) (n : ℕ) → length (told f n) ≡ n
+length-told f zero = refl
+length-told f (suc n) = omega (arith, length-append (told f n) (f n ∷ []), length-told f n)
+
+pub has-told : (f : ℕ → Bool) (n s : ℕ) → s < n → has (told f n) s ≡ f s
+has-told f zero s h = absurd (omega (arith, h))
+has-told f (suc n) s h = elim (below_or_not s n) [
+  | inl lt ↦ get_or_append_left (told f n) (f n ∷ []) false s (omega (arith, lt, length-told f n)) ∙ has-told f n s lt
+  | inr le ↦
+      let e : n ≡ s = omega (arith, le, h) in
+      get_or_push (told f n) (f n) false s (length-told f n ∙ e) ∙ ap f e
+]
+
+pub told_same : (f g : ℕ → Bool) (n : ℕ) → ((s : ℕ) → s < n → f s ≡ g s) → told f n ≡ told g n
+told_same f g zero same = refl
+told_same f g (suc n) same = ap₂ (λ l b. l ++ b ∷ []) (told_same f g n (λ s lt. same s (omega (arith, lt)))) (same n (omega arith))
+
+pub told-none : (n : ℕ) → told (λ s. false) n ≡ replicate n false
+told-none zero = refl
+told-none (suc n) = let e : n + 1 ≡ suc n = omega arith in ap (λ l. l ++ false ∷ []) (told-none n) ∙ sym (replicate_next n false) ∙ ap (λ k. replicate k false) e
+
+-- the states of a block more
+pub with_block-told : (f : ℕ → Bool) (n : ℕ) (b : Block) → with_block (told f n) b ≡ told (λ s. f s || in_block b s) n
+with_block-told f n b = ap (told (λ s. has (told f n) s || in_block b s)) (length-told f n) ∙ told_same (λ s. has (told f n) s || in_block b s) (λ s. f s || in_block b s) n (λ s lt. ap (λ x. x || in_block b s) (has-told f n s lt))
 
 -- ---- the states of words
 
 pub length-flags : (ws : List ℕ) (n : ℕ) → length (flags ws n) ≡ n
-length-flags ws zero = refl
-length-flags ws (suc n) = omega (arith, length-append (flags ws n) (flag ws n ∷ []), length-flags ws n)
+length-flags ws n = length-told (flag ws) n
 
 has_below : (ws : List ℕ) (n s : ℕ) → s < n → has (flags ws n) s ≡ flag ws s
-has_below ws zero s h = absurd (omega (arith, h))
-has_below ws (suc n) s h = elim (below_or_not s n) [
-  | inl lt ↦ get_or_append_left (flags ws n) (flag ws n ∷ []) false s (omega (arith, lt, length-flags ws n)) ∙ has_below ws n s lt
-  | inr le ↦
-      let e : n ≡ s = omega (arith, le, h) in
-      get_or_push (flags ws n) (flag ws n) false s (length-flags ws n ∙ e) ∙ ap (flag ws) e
-]
+has_below ws n s h = has-told (flag ws) n s h
 
 pub has-past : (ws : List ℕ) (n s : ℕ) → n ≤ s → has (flags ws n) s ≡ false
 has-past ws n s h = get_or_past (flags ws n) s false (omega (arith, h, length-flags ws n))

@@ -4,6 +4,7 @@ pub mod Automaton
 pub mod Standing
 pub mod Built
 pub mod Pending
+pub mod Going
 pub mod Arcs
 pub mod Marking
 pub mod Shown

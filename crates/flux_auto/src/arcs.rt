@@ -1,31 +1,33 @@
 // The edges of an automaton, by the trees that they go by.
-ghost use Rattle.std.specs.Prelude.{◌≡◌, ◌<◌, ◌++◌, ◌∷◌, [], ℕ, length, IfOk, OnOk};
-ghost use Rattle.flux_auto.specs.Arcs.{leaving, arcs_at, leaps_at, leaps_along, leaps_by, Lists, Adds, IsIndex};
+ghost use Rattle.std.specs.Prelude.{◌≡◌, ◌<◌, ◌++◌, ◌∷◌, ◌⊎◌, ◌↔◌, [], ℕ, length, IfOk, OnOk, IsTrue, false};
+ghost use Rattle.flux_auto.specs.Arcs.{IsArc, IsLeap, ArcMore, LeapMore, arcs_at, leaps_at, leaps_along, leaps_by, Lists, Adds, IsIndex};
 ghost use Rattle.flux_auto.specs.declared.edge.Edge.TheVariants.{Atom, Elem, AnyElem};
 
 use crate::Edge;
+use crate::block::Block;
 use crate::set::Set;
 use flux_atom::{AtomKind, Name};
 use std::alloc::{AllocError, Global};
 
-// An edge by an element of a known label, or of any: the state that it leaves, that of the content,
-// and that of the trees after the element.
+// Edges by an element of a known label, or of any: the states that they leave, of one block, that
+// of the content, and that of the trees after the element.
 #[derive(Clone, Copy)]
 pub(crate) struct Arc {
-    pub(crate) source: u64,
+    pub(crate) sources: Block,
     pub(crate) content: u64,
     pub(crate) next: u64,
 }
 
-/// An edge by a known tree: the state that it leaves, and that of the trees after it.
+/// Edges by a known tree: the states that they leave, of one block, and that of the trees after it.
 #[derive(Clone, Copy, Debug, PartialEq, Eq, Hash)]
 pub struct Leap {
-    pub source: u64,
+    pub sources: Block,
     pub next: u64,
 }
 
 /// The edges of states: those by elements, at the number of their label, those by elements of any
-/// label, and those by atoms, of each kind.
+/// label, and those by atoms, of each kind. Edges of a block of states that go the same way stand
+/// together where they were added one after another.
 #[derive(Drop)]
 pub struct Arcs {
     pub(crate) by_label: Vec<Vec<Arc>>,
@@ -53,7 +55,7 @@ impl Arcs {
 
     /// Adds the edges of a state.
     pub fn add_all(&mut self, source: u64, edges: &[Edge]) -> Result<(), AllocError>
-        ensures { OnOk result (Adds self.old self.new (leaving source edges.now)) }
+        ensures { OnOk result (Adds self.old self.new source edges.now) }
     {
         for edge in edges {
             add(self, source, edge)?;
@@ -120,8 +122,8 @@ fn add_leap_along(leaps: &mut Vec<Leap>, arc: &Arc, content: &Set) -> Result<(),
         (leaps.new.items ≡ leaps.old.items ++ leaps_along content.now (arc.now ∷ [])) }
 {
     if content.has(arc.content) {
-        let (source, next) = (arc.source, arc.next);
-        leaps.push(Leap { source, next })?;
+        let (sources, next) = (arc.sources, arc.next);
+        leaps.push(Leap { sources, next })?;
     }
     Ok(())
 }
@@ -148,62 +150,104 @@ fn list(labels: &mut Vec<Name>, label: Name, arcs: &[Arc]) -> Result<(), AllocEr
     Ok(())
 }
 
-fn add_arc(arcs: &mut Arcs, label: Name, arc: Arc) -> Result<(), AllocError>
-    ensures { OnOk result
-        (Adds arcs.old arcs.new ((arc.source, Elem label arc.content arc.next) ∷ [])) }
+// Adds an arc to another, where the two go the same way and leave one block, and tells whether they
+// do.
+fn join_arc(last: &mut Arc, arc: Arc) -> bool
+    ensures joined { IsTrue result → (s c r : ℕ)
+        → IsArc last.new s c r ↔ (IsArc last.old s c r ⊎ IsArc arc s c r) }
+    ensures same { result ≡ false → last.new ≡ last.old }
+{
+    last.content == arc.content && last.next == arc.next && last.sources.join(arc.sources)
+}
+
+fn join_leap(last: &mut Leap, leap: Leap) -> bool
+    ensures joined { IsTrue result → (s r : ℕ)
+        → IsLeap last.new s r ↔ (IsLeap last.old s r ⊎ IsLeap leap s r) }
+    ensures same { result ≡ false → last.new ≡ last.old }
+{
+    last.next == leap.next && last.sources.join(leap.sources)
+}
+
+// Adds an arc, if it can to the last one.
+fn push_arc(arcs: &mut Vec<Arc>, arc: Arc) -> Result<(), AllocError>
+    ensures { OnOk result (ArcMore arcs.old.items arc arcs.new.items) }
+{
+    if let Some(last) = arcs.last_mut() {
+        if join_arc(last, arc) {
+            return Ok(());
+        }
+    }
+    arcs.push(arc)?;
+    Ok(())
+}
+
+fn push_leap(leaps: &mut Vec<Leap>, leap: Leap) -> Result<(), AllocError>
+    ensures { OnOk result (LeapMore leaps.old.items leap leaps.new.items) }
+{
+    if let Some(last) = leaps.last_mut() {
+        if join_leap(last, leap) {
+            return Ok(());
+        }
+    }
+    leaps.push(leap)?;
+    Ok(())
+}
+
+fn add_arc(
+    arcs: &mut Arcs,
+    label: Name,
+    source: u64,
+    content: u64,
+    next: u64,
+) -> Result<(), AllocError>
+    ensures { OnOk result (Adds arcs.old arcs.new source (Elem label content next ∷ [])) }
 {
     let number = label.number() as usize;
     make_place(&mut arcs.by_label, number)?;
     list(&mut arcs.labels, label, arcs.by_label[number].as_slice())?;
-    arcs.by_label[number].push(arc)?;
+    let sources = Block::of(source);
+    let arc = Arc {
+        sources,
+        content,
+        next,
+    };
+    push_arc(&mut arcs.by_label[number], arc)?;
     Ok(())
 }
 
-fn add_any(arcs: &mut Arcs, arc: Arc) -> Result<(), AllocError>
-    ensures { OnOk result
-        (Adds arcs.old arcs.new ((arc.source, AnyElem arc.content arc.next) ∷ [])) }
+fn add_any(arcs: &mut Arcs, source: u64, content: u64, next: u64) -> Result<(), AllocError>
+    ensures { OnOk result (Adds arcs.old arcs.new source (AnyElem content next ∷ [])) }
 {
-    arcs.any_label.push(arc)?;
+    let sources = Block::of(source);
+    let arc = Arc {
+        sources,
+        content,
+        next,
+    };
+    push_arc(&mut arcs.any_label, arc)?;
     Ok(())
 }
 
-fn add_leap(arcs: &mut Arcs, kind: AtomKind, leap: Leap) -> Result<(), AllocError>
-    ensures { OnOk result (Adds arcs.old arcs.new ((leap.source, Atom kind leap.next) ∷ [])) }
+fn add_leap(arcs: &mut Arcs, kind: AtomKind, source: u64, next: u64) -> Result<(), AllocError>
+    ensures { OnOk result (Adds arcs.old arcs.new source (Atom kind next ∷ [])) }
 {
+    let sources = Block::of(source);
+    let leap = Leap { sources, next };
     match kind {
-        AtomKind::Bool => arcs.truths.push(leap)?,
-        AtomKind::Text => arcs.texts.push(leap)?,
-        AtomKind::Int => arcs.numbers.push(leap)?,
+        AtomKind::Bool => push_leap(&mut arcs.truths, leap)?,
+        AtomKind::Text => push_leap(&mut arcs.texts, leap)?,
+        AtomKind::Int => push_leap(&mut arcs.numbers, leap)?,
     }
     Ok(())
 }
 
 // Adds an edge that leaves a state.
 fn add(arcs: &mut Arcs, source: u64, edge: &Edge) -> Result<(), AllocError>
-    ensures { OnOk result (Adds arcs.old arcs.new ((source, edge.now) ∷ [])) }
+    ensures { OnOk result (Adds arcs.old arcs.new source (edge.now ∷ [])) }
 {
     match edge {
-        Edge::Atom(kind, next) => {
-            let next = *next;
-            add_leap(arcs, *kind, Leap { source, next })
-        }
-        Edge::Elem(label, content, next) => {
-            let (content, next) = (*content, *next);
-            let arc = Arc {
-                source,
-                content,
-                next,
-            };
-            add_arc(arcs, *label, arc)
-        }
-        Edge::AnyElem(content, next) => {
-            let (content, next) = (*content, *next);
-            let arc = Arc {
-                source,
-                content,
-                next,
-            };
-            add_any(arcs, arc)
-        }
+        Edge::Atom(kind, next) => add_leap(arcs, *kind, source, *next),
+        Edge::Elem(label, content, next) => add_arc(arcs, *label, source, *content, *next),
+        Edge::AnyElem(content, next) => add_any(arcs, source, *content, *next),
     }
 }

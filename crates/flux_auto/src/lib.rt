@@ -3,6 +3,7 @@
 
 mod arcs;
 mod auto;
+mod block;
 mod close;
 mod content;
 mod edge;
@@ -20,6 +21,7 @@ mod worklist;
 
 pub use arcs::{Arcs, Leap};
 pub use auto::{Auto, Start};
+pub use block::Block;
 pub use edge::Edge;
 pub use recipe::{Recipe, build};
 pub use set::Set;

@@ -5,8 +5,9 @@ ghost use Rattle.std.specs.Cmp.{partial_equiv_from_equiv, bool_eq_equiv, boolean
 ghost use Rattle.std.specs.Cmp.Lexicographic.{pointwise, pointwise_decides, lists_equiv};
 ghost use Rattle.std.specs.Hash as fed;
 ghost use Rattle.flux_auto.specs.Takes.{has};
-ghost use Rattle.flux_auto.specs.Set.{words_of};
+ghost use Rattle.flux_auto.specs.Set.{with_block, words_of};
 
+use crate::block::Block;
 use std::alloc::{AllocError, Global};
 use std::hash::{Hash, Hasher};
 use std::marker::Model;
@@ -55,6 +56,18 @@ impl Set {
         let state = state as usize;
         if state < self.count {
             self.words[state / 64] |= 1u64 << (state % 64);
+        }
+    }
+
+    /// Puts the states of a block that are below the count into the set.
+    pub fn insert_all(&mut self, states: Block)
+        ensures { self.new ≡ with_block self.old states }
+    {
+        let number = states.number as usize;
+        if number < self.count / 64 {
+            self.words[number] |= states.bits;
+        } else if number == self.count / 64 {
+            self.words[number] |= states.bits & ((1u64 << (self.count % 64)) - 1);
         }
     }
 }

@@ -13,7 +13,7 @@ fn mark_by_leap(marks: &mut Set, leap: &Leap, rest: &Set)
     ensures { marks.new ≡ mark_by_leap rest.now marks.old leap.now }
 {
     if rest.has(leap.next) {
-        marks.insert(leap.source);
+        marks.insert_all(leap.sources);
     }
 }
 

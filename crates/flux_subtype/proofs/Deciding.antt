@@ -13,7 +13,7 @@ use Rattle.flux_schema.proofs.LabelLaws.{each_label}
 use Rattle.flux_types.specs.Verdicts.{IsEvidence}
 use Rattle.flux_auto.specs.Automaton.{Automaton, TakesMembers, EdgesGiven}
 use Rattle.flux_auto.specs.Witness.{IsShownBy}
-use Rattle.flux_subtype.specs.Going.{LacksEdge}
+use Rattle.flux_auto.specs.Going.{LacksEdge}
 use Rattle.flux_subtype.specs.Search.{IsAnswer}
 
 -- one of two

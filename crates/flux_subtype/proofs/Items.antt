@@ -1,8 +1,7 @@
 -- Which items a list has, as it grows and as one is replaced.
-use Rattle.std.proofs.Common.{◌≡◌, ◌⊎◌, ℕ, zero, suc, ◌+◌, ◌<◌, ◌≤◌, List, [], ◌++◌, length, Some, slice_get, get_or, refl, sym, ap, subst, ◌∙◌, inl, inr, arith, length-append, append_assoc}
+use Rattle.std.proofs.Common.{◌≡◌, ◌⊎◌, ℕ, zero, suc, ◌+◌, ◌<◌, ◌≤◌, List, [], ◌++◌, length, slice_get, refl, sym, ap, subst, ◌∙◌, inl, inr, arith, length-append, append_assoc}
 use Rattle.std.proofs.lemmas.List.{append-nil}
-use Rattle.std.proofs.lemmas.Option.{slice_get-get_or}
-use Rattle.flux_auto.specs.Arcs.{Has}
+use Rattle.flux_auto.specs.Going.{Has}
 use Rattle.flux_auto.proofs.Items.{get-append, has-append}
 
 pub below_or_at : (i n : ℕ) → i < n + 1 → (i < n) ⊎ (i ≡ n)
@@ -26,7 +25,3 @@ grows-get xs ys i (m, e) h = ap (λ l. slice_get l i) e ∙ get-append xs m i h
 
 pub grows-has : {X : Type 0} (xs ys : List X) (x : X) → (more : List X) × (ys ≡ xs ++ more) → Has xs x → Has ys x
 grows-has xs ys x (m, e) h = subst (λ l. Has l x) (sym e) (has-append xs m x h)
-
--- the item that was read
-pub read_is : {X : Type 0} (xs : List X) (i : ℕ) (x d : X) → i < length xs → x ≡ get_or xs i d → slice_get xs i ≡ Some x
-read_is xs i x d h e = slice_get-get_or xs i d h ∙ ap Some (sym e)

@@ -13,14 +13,14 @@ use Rattle.flux_auto.specs.declared.edge.Edge.{Edge}
 use Rattle.flux_auto.specs.declared.edge.Edge.TheVariants.{Atom, Elem, AnyElem}
 use Rattle.flux_auto.specs.Takes.{State, has, takes, EdgeBelow, EdgesBelow}
 use Rattle.flux_auto.specs.Automaton.{EdgesInside}
-use Rattle.flux_auto.specs.Arcs.{Has, Adds, IsIndex, leaving}
-use Rattle.flux_subtype.specs.Going.{HasEdge, HasElement}
+use Rattle.flux_auto.specs.Arcs.{Adds, IsIndex}
+use Rattle.flux_auto.specs.Going.{Has, HasEdge, HasElement}
 use Rattle.flux_subtype.specs.Part.{LeadInside, LeadsInto, AllLeadInto, IsClosed, missing, Extends, bare, part_of, IsPartOf}
 use Rattle.flux_auto.proofs.ArcLaws.{index_next, ends_below, ends_next}
 use Rattle.flux_auto.proofs.Items.{some_is, has-append, has-last, has-push, has-nil}
 use Rattle.flux_subtype.proofs.CoverLaws.{has-none}
 use Rattle.flux_subtype.proofs.Items.{below_or_at, grows-refl, grows-trans, grows-has}
-use Rattle.flux_subtype.proofs.GoingLaws.{takes_goes, goes_takes}
+use Rattle.flux_auto.proofs.GoingLaws.{takes_goes, goes_takes}
 
 same_value : (a b : Bool) → (a ≡ true) ↔ (b ≡ true) → a ≡ b
 same_value true true e = refl
@@ -303,10 +303,10 @@ ends_at (st ∷ a) (suc s) b e = ends_at a s b e
 
 -- ---- the states of the part, one after another
 
-pub index_more : (a : List State) (old new : Arcs) (i : ℕ) (es : List Edge) → IsIndex (take i a) old → i < length a → option_map (λ (st : State). st.edges) (slice_get a i) ≡ Some es → Adds old new (leaving i es) → IsIndex (take (i + 1) a) new
+pub index_more : (a : List State) (old new : Arcs) (i : ℕ) (es : List Edge) → IsIndex (take i a) old → i < length a → option_map (λ (st : State). st.edges) (slice_get a i) ≡ Some es → Adds old new i es → IsIndex (take (i + 1) a) new
 index_more a old new i es before lt at adds =
     let st = edges_at a i es at in
-    index_next a old new i st.0 before lt (sym (get_or_from_slice_get a i st.0 st.0 st.1)) (subst (λ l. Adds old new (leaving i l)) (sym st.2) adds)
+    index_next a old new i st.0 before lt (sym (get_or_from_slice_get a i st.0 st.0 st.1)) (subst (Adds old new i) (sym st.2) adds)
 
 pub ends_more : (a : List State) (i : ℕ) (b : Bool) (p q : List Bool) → i < length a → option_map (λ (st : State). st.ends) (slice_get a i) ≡ Some b → p ≡ ends_below a i → q ≡ (if b then set p i true else p) → q ≡ ends_below a (i + 1)
 ends_more a i b p q lt at before is =

@@ -1,19 +1,17 @@
 -- What a turn of the search leaves.
-use Rattle.std.proofs.Common.{◌≡◌, ◌⊎◌, ℕ, ◌+◌, ◌<◌, ◌≤◌, List, [], ◌∷◌, ◌++◌, length, take, get_or, Bool, true, false, if◌then◌else◌, replicate, Some, slice_get, refl, sym, ap, ap₂, subst, ◌∙◌, inl, inr, arith}
-use Rattle.std.proofs.Math.ListN.{set}
-use Rattle.std.proofs.lemmas.List.{take_more}
+use Rattle.std.proofs.Common.{◌≡◌, ◌⊎◌, ℕ, ◌+◌, ◌<◌, ◌≤◌, List, [], ◌∷◌, ◌++◌, length, take, get_or, Bool, false, replicate, Some, slice_get, refl, sym, ap, ap₂, subst, ◌∙◌, inl, inr, arith}
 use Rattle.std.proofs.lemmas.Option.{slice_get_within}
 use Rattle.flux_auto.specs.declared.arcs.Leap.{Leap}
 use Rattle.flux_auto.specs.declared.arcs.Arcs.{Arcs}
 use Rattle.flux_auto.specs.Takes.{State, has, profile, profile_nil, profile_atom, profile_element}
-use Rattle.flux_auto.specs.Arcs.{Has, IsIndex, arcs_at, leaps_along, leaps_by, mark_by_leap, fired}
+use Rattle.flux_auto.specs.Arcs.{IsIndex, arcs_at, leaps_along, leaps_by, fired}
 use Rattle.flux_auto.specs.Witness.{made, forests, IsOlder, IsShownBy}
-use Rattle.flux_auto.proofs.ArcLaws.{element_fires, index_label, mark_by_leaps-append}
+use Rattle.flux_auto.proofs.ArcLaws.{element_fires, index_label, silent_more}
 use Rattle.flux_auto.proofs.Items.{some_is, get-push, has-last, has-push}
 use Rattle.flux_auto.proofs.Recipes.{kind_of-sample}
 use Rattle.flux_subtype.specs.declared.trees.Head.{Head}
 use Rattle.flux_subtype.specs.declared.trees.Head.TheVariants.{Atom, Elem}
-use Rattle.flux_subtype.specs.Going.{LacksEdge}
+use Rattle.flux_auto.specs.Going.{Has, LacksEdge}
 use Rattle.flux_subtype.specs.Kept.{Kept, recipes, set_at, IsRecipeLabel, IsKeptLabel, AreKept, Grows, IsKept, Keeps}
 use Rattle.flux_subtype.specs.Search.{Tree, dead, ByElement, MovesBy, AreTrees, Stands, TreesGrow, AddsTree, IsHeadLabel, IsTreeLabel, IsUsed, IsElementOf, AddsElements, LabelsDone, Answered, AllAnswered, AnsweredBelow, recipe_of, Puts, Fills, FillsAll, IsDone, Turned}
 use Rattle.flux_subtype.proofs.Items.{below_or_at, grows-refl, grows-trans, grows-length, grows-get, grows-has}
@@ -23,10 +21,7 @@ use Rattle.flux_subtype.proofs.KeptLaws.{grows-set_at, keeps_more}
 
 -- no leap goes to a state of the set, so none marks
 pub silent_next : (leaps : List Leap) (q : List Bool) (i : ℕ) (l : Leap) → ((n : ℕ) → fired n (take i leaps) q ≡ replicate n false) → i < length leaps → has q (get_or leaps i l).next ≡ false → (n : ℕ) → fired n (take (i + 1) leaps) q ≡ replicate n false
-silent_next leaps q i l before lt off n =
-    let clear = replicate n false in
-    ap (λ ls. fired n ls q) (take_more leaps i l lt) ∙ mark_by_leaps-append q clear (take i leaps) (get_or leaps i l ∷ [])
-    ∙ ap (λ p. mark_by_leap q p (get_or leaps i l)) (before n) ∙ ap (λ b. if b then set clear (get_or leaps i l).source true else clear) off
+silent_next leaps q i l before lt off n = silent_more q n leaps i l lt off ∙ before n
 
 names_older : (a : List State) (ks : List Kept) (head : Head) (leaps : List Leap) (r : ℕ) → MovesBy a ks head leaps → r < length ks → IsOlder (length ks) (recipe_of head r)
 names_older a ks (Atom k) leaps r by h = h

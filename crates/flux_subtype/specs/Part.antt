@@ -4,8 +4,7 @@ use Rattle.flux_trees.specs.Hedge.{Plain}
 use Rattle.flux_auto.specs.declared.edge.Edge.{Edge}
 use Rattle.flux_auto.specs.declared.edge.Edge.TheVariants.{Atom, Elem, AnyElem}
 use Rattle.flux_auto.specs.Takes.{State, has, takes}
-use Rattle.flux_auto.specs.Arcs.{Has}
-use Rattle.flux_subtype.specs.Going.{HasEdge}
+use Rattle.flux_auto.specs.Going.{Has, HasEdge}
 
 -- the edge names the state
 abbrev pub Leads : Edge → ℕ → Type 0

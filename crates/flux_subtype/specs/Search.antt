@@ -10,7 +10,8 @@ use Rattle.flux_auto.specs.declared.arcs.Arcs.{Arcs}
 use Rattle.flux_auto.specs.declared.recipe.Recipe.{Recipe}
 use Rattle.flux_auto.specs.declared.recipe.Recipe.TheVariants as recipe
 use Rattle.flux_auto.specs.Takes.{State, has, takes, profile_nil, profile_atom, profile_element}
-use Rattle.flux_auto.specs.Arcs.{Has, leaps_by, fired}
+use Rattle.flux_auto.specs.Arcs.{leaps_by, fired}
+use Rattle.flux_auto.specs.Going.{Has}
 use Rattle.flux_auto.specs.Witness.{IsShownBy}
 use Rattle.flux_subtype.specs.declared.trees.Head.{Head}
 use Rattle.flux_subtype.specs.declared.trees.Head.TheVariants.{Atom, Elem}

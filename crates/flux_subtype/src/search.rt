@@ -2,7 +2,7 @@
 ghost use Rattle.std.specs.Prelude.{◌≡◌, ◌↔◌, ◌<◌, ◌≤◌, ◌+◌, ℕ, length, replicate, IfOk, OnOk, IfSome, IfNone, IsTrue, true, false};
 ghost use Rattle.flux_auto.specs.Takes.{has, profile_nil};
 ghost use Rattle.flux_auto.specs.Arcs.{IsIndex, fired};
-ghost use Rattle.flux_subtype.specs.Going.{LacksEdge};
+ghost use Rattle.flux_auto.specs.Going.{LacksEdge};
 ghost use Rattle.flux_subtype.specs.Kept.{set_at, AreKept};
 ghost use Rattle.flux_subtype.specs.Search.{MovesBy, AreTrees, AnsweredBelow, Puts, Fills, FillsAll, IsDone, LabelsGrow, Turned, IsAgainst, IsFound, IsAnswer, IsUsed, recipe_of};
 

@@ -1,5 +1,5 @@
 use Rattle.std.proofs.Common.{arith}
-use Rattle.flux_subtype.proofs.Items.{read_is}
+use Rattle.flux_auto.proofs.Items.{read_is}
 use Rattle.flux_subtype.proofs.PartLaws.{extends-refl, extends-trans, all_lead_next}
 use Rattle.flux_subtype.proofs.part.reach_along_all.Goals as goal
 

@@ -1,5 +1,5 @@
 use Rattle.std.proofs.Common.{subst, sym, arith}
-use Rattle.flux_auto.specs.Arcs.{Has}
+use Rattle.flux_auto.specs.Going.{Has}
 use Rattle.flux_auto.proofs.Items.{has-last}
 use Rattle.flux_subtype.proofs.PartLaws.{edges_at, follows-begin, follows-next, edges_inside}
 use Rattle.flux_subtype.proofs.part.reached.Goals as goal

@@ -10,7 +10,7 @@ pub put-requires-clause-kept : goal.put-requires-clause-kept
 put-requires-clause-kept c = c.loop-rest.invariant.kept
 
 pub put-requires-clause-tree : goal.put-requires-clause-tree
-put-requires-clause-tree c = moves_by-grows _ _ _ _ _ c.loop-rest.invariant.grows c.requires.tree
+put-requires-clause-tree c = moves_by-grows c.args.part.now c.args.kept.now.entries c.loop-rest.kept.entries c.args.head.now c.args.leaps.now c.loop-rest.invariant.grows c.requires.tree
 
 pub put-requires-clause-rest : goal.put-requires-clause-rest
 put-requires-clause-rest c = within-grows _ _ _ c.loop-rest.invariant.grows (omega arith)

@@ -1,5 +1,5 @@
 use Rattle.std.proofs.Common.{◌∙◌, ℕ, List, length, slice_get, sym, ap, arith}
-use Rattle.flux_subtype.proofs.Items.{read_is}
+use Rattle.flux_auto.proofs.Items.{read_is}
 use Rattle.flux_subtype.proofs.Turning.{adds_below_next, adds_all}
 use Rattle.flux_subtype.proofs.trees.add_elements.Goals as goal
 

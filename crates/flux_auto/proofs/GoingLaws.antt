@@ -14,8 +14,7 @@ use Rattle.flux_schema.proofs.SameLaws.{same_kind-eq, same_kind-same}
 use Rattle.flux_auto.specs.declared.edge.Edge.{Edge}
 use Rattle.flux_auto.specs.declared.edge.Edge.TheVariants.{Atom, Elem, AnyElem}
 use Rattle.flux_auto.specs.Takes.{State, has, goes_by_element, goes_by_atom, takes}
-use Rattle.flux_auto.specs.Arcs.{Has}
-use Rattle.flux_subtype.specs.Going.{HasElement, Goes}
+use Rattle.flux_auto.specs.Going.{Has, HasElement, Goes}
 
 has_map : (f : State → Bool) (a : List State) (s : ℕ) → has (map f a) s ≡ true → (st : State) × (slice_get a s ≡ Some st) × (f st ≡ true)
 has_map f [] s e = cc
@@ -27,13 +26,17 @@ map_has f [] s st e h = cc
 map_has f (x ∷ a) zero st e h = (let same : x ≡ st = cc in ap f same ∙ h)
 map_has f (x ∷ a) (suc s) st e h = map_has f a s st e h
 
-any_is : (f : Edge → Bool) (es : List Edge) → list_any f es ≡ true → (e : Edge) × Has es e × (f e ≡ true)
+-- an item that passes the test
+pub any_is : {X : Type 0} (f : X → Bool) (xs : List X) → list_any f xs ≡ true → (x : X) × Has xs x × (f x ≡ true)
 any_is f [] h = cc
-any_is f (e ∷ es) h = by (f e) refl h (any_is f es)
+any_is {X} f (y ∷ xs) h = by (f y) refl h (any_is f xs)
   where
-    by : (b : Bool) → f e ≡ b → b || list_any f es ≡ true → (list_any f es ≡ true → (d : Edge) × Has es d × (f d ≡ true)) → (d : Edge) × Has (e ∷ es) d × (f d ≡ true)
-    by true is g rest = (e, (0, refl), is)
+    by : (b : Bool) → f y ≡ b → b || list_any f xs ≡ true → (list_any f xs ≡ true → (x : X) × Has xs x × (f x ≡ true)) → (x : X) × Has (y ∷ xs) x × (f x ≡ true)
+    by true is g rest = (y, (0, refl), is)
     by false is g rest = let r = rest g in (r.0, (suc r.1.0, r.1.1), r.2)
+
+pub any_of : {X : Type 0} (f : X → Bool) (xs : List X) (x : X) → Has xs x → f x ≡ true → list_any f xs ≡ true
+any_of f xs x (k, at) h = any_passes_from_place f xs k x at h
 
 equal : (m n : ℕ) → (m == n) ≡ true → m ≡ n
 equal m n e = elim (eqb_tells m n) [ inl h ↦ h.1 | inr h ↦ absurd (let x : true ≡ false = sym e ∙ h.0 in cc) ]
@@ -41,7 +44,7 @@ equal m n e = elim (eqb_tells m n) [ inl h ↦ h.1 | inr h ↦ absurd (let x : t
 equal_is : (n : ℕ) → (n == n) ≡ true
 equal_is n = elim (eqb_tells n n) [ inl h ↦ h.0 | inr h ↦ absurd (h.1 refl) ]
 
-by_element : (n : ℕ) (p q : List Bool) (e : Edge) → goes_by_element n p q e ≡ true → (c : ℕ) × (r : ℕ) × ((e ≡ Elem n c r) ⊎ (e ≡ AnyElem c r)) × (has p c ≡ true) × (has q r ≡ true)
+pub by_element : (n : ℕ) (p q : List Bool) (e : Edge) → goes_by_element n p q e ≡ true → (c : ℕ) × (r : ℕ) × ((e ≡ Elem n c r) ⊎ (e ≡ AnyElem c r)) × (has p c ≡ true) × (has q r ≡ true)
 by_element n p q (Atom k r) h = cc
 by_element n p q (Elem m c r) h =
     let a = and_parts (m == n) _ h in
@@ -51,17 +54,17 @@ by_element n p q (AnyElem c r) h =
     let b = and_parts (has p c) (has q r) h in
     (c, r, inr refl, b.0, b.1)
 
-element_by : (n : ℕ) (p q : List Bool) (c r : ℕ) → has p c ≡ true → has q r ≡ true → goes_by_element n p q (Elem n c r) ≡ true
+pub element_by : (n : ℕ) (p q : List Bool) (c r : ℕ) → has p c ≡ true → has q r ≡ true → goes_by_element n p q (Elem n c r) ≡ true
 element_by n p q c r h g = two (equal_is n) (two h g)
 
-by_atom : (k : AtomKind) (q : List Bool) (e : Edge) → goes_by_atom k q e ≡ true → (r : ℕ) × (e ≡ Atom k r) × (has q r ≡ true)
+pub by_atom : (k : AtomKind) (q : List Bool) (e : Edge) → goes_by_atom k q e ≡ true → (r : ℕ) × (e ≡ Atom k r) × (has q r ≡ true)
 by_atom k q (Atom j r) h =
     let a = and_parts (same_kind j k) (has q r) h in
     (r, ap (λ x. Atom x r) (same_kind-eq j k a.0), a.1)
 by_atom k q (Elem m c r) h = cc
 by_atom k q (AnyElem c r) h = cc
 
-atom_by : (k : AtomKind) (q : List Bool) (r : ℕ) → has q r ≡ true → goes_by_atom k q (Atom k r) ≡ true
+pub atom_by : (k : AtomKind) (q : List Bool) (r : ℕ) → has q r ≡ true → goes_by_atom k q (Atom k r) ≡ true
 atom_by k q r h = two (same_kind-same k) h
 
 -- ----

@@ -5,7 +5,10 @@ use Rattle.flux_trees.specs.Hedge.{Plain, nil, elem, leaf}
 use Rattle.flux_auto.specs.declared.edge.Edge.{Edge}
 use Rattle.flux_auto.specs.declared.edge.Edge.TheVariants.{Atom, Elem, AnyElem}
 use Rattle.flux_auto.specs.Takes.{State, takes}
-use Rattle.flux_auto.specs.Arcs.{Has}
+
+-- the list has the item, at some place
+abbrev pub Has : {X : Type 0} → List X → X → Type 0
+Has xs x = (k : ℕ) × (slice_get xs k ≡ Some x)
 
 -- the state has the edge
 abbrev pub HasEdge : List State → ℕ → Edge → Type 0
