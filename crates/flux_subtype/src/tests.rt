@@ -417,8 +417,6 @@ fn chains_of_names(rt: HostRuntime) -> Result<(), Fail> {
     assert_included(&rt, alloc, &choices, other, &last, &head, true)
 }
 
-const STEPS: u32 = 15;
-
 fn numbered(
     rt: &impl Abort,
     names: &mut Names,
@@ -435,9 +433,10 @@ fn labels(
     alloc: Global,
     names: &mut Names,
     front: &str,
+    count: u32,
 ) -> Result<Vec<Name>, Fail> {
     let mut labels = Vec::new(alloc);
-    for number in 0..STEPS {
+    for number in 0..count {
         labels.push(numbered(rt, names, alloc, front, number)?)?;
     }
     Ok(labels)
@@ -471,11 +470,39 @@ fn ladder(alloc: Global, outer: &[Name], inner: &[Name]) -> Result<Ty, AllocErro
 fn equal_types_take_no_search(rt: HostRuntime) -> Result<(), Fail> {
     let alloc = rt.alloc();
     let mut names = Names::new(alloc);
-    let outer = labels(&rt, alloc, &mut names, "e")?;
-    let inner = labels(&rt, alloc, &mut names, "f")?;
+    let outer = labels(&rt, alloc, &mut names, "e", 15)?;
+    let inner = labels(&rt, alloc, &mut names, "f", 15)?;
     let other = label(&rt, &mut names, "other")?;
     let defs = Draft::new(alloc).close()?;
     let left = ladder(alloc, &outer, &inner)?;
     let right = ladder(alloc, &outer, &inner)?;
     assert_included(&rt, alloc, &defs, other, &left, &right, true)
+}
+
+// Repetitions of the elements of all labels, one behind the other, in order.
+fn repetitions(alloc: Global, labels: &[Name]) -> Result<Ty, AllocError> {
+    let mut rest = Ty::Empty;
+    for label in labels.iter().rev() {
+        let leaf = Ty::Elem(*label, Boxed::new(alloc, Ty::Empty)?);
+        let star = Ty::Star(Boxed::new(alloc, leaf)?);
+        rest = Ty::Seq(Boxed::new(alloc, star)?, Boxed::new(alloc, rest)?);
+    }
+    Ok(rest)
+}
+
+// There are more states than two blocks have, and an edge from each to all later ones.
+#[test]
+fn repetitions_one_behind_the_other(rt: HostRuntime) -> Result<(), Fail> {
+    let alloc = rt.alloc();
+    let mut names = Names::new(alloc);
+    let labels = labels(&rt, alloc, &mut names, "e", 70)?;
+    let other = label(&rt, &mut names, "other")?;
+    let defs = Draft::new(alloc).close()?;
+    let all = repetitions(alloc, &labels)?;
+    let most = repetitions(alloc, &labels[..69])?;
+    let any = all_but(alloc, &labels, labels.len())?;
+    assert_included(&rt, alloc, &defs, other, &all, &any, true)?;
+    assert_included(&rt, alloc, &defs, other, &any, &all, false)?;
+    assert_included(&rt, alloc, &defs, other, &most, &all, true)?;
+    assert_included(&rt, alloc, &defs, other, &all, &most, false)
 }
