@@ -1,0 +1,10 @@
+pub mod OneOutcome
+pub mod Typed
+pub mod Growth
+pub mod Kept
+pub mod QueryNames
+pub mod Names
+pub mod Members
+pub mod Sound
+pub mod Running
+pub mod Accepting
