@@ -1,6 +1,6 @@
 -- Acceptance has at most one outcome, and an accepted script runs.
 use Rattle.std.specs.Prelude.{IfSome}
-use Rattle.std.proofs.Common.{◌≡◌, ℕ, zero, suc, [], ◌∷◌, Option, Some, None, sym, subst, slice_get}
+use Rattle.std.proofs.Common.{◌≡◌, ℕ, zero, suc, [], Option, Some, None, sym, subst, slice_get}
 use Rattle.flux_trees.specs.Hedge.{Plain}
 use Rattle.flux_schema.specs.Ty.{Ty}
 use Rattle.flux_schema.specs.Definitions.{Definitions, AreKnown}

@@ -8,3 +8,6 @@ pub mod Members
 pub mod Sound
 pub mod Running
 pub mod Accepting
+pub mod Ranked
+pub mod QueriesTotal
+pub mod Total

@@ -1,5 +1,5 @@
 -- Typed statements run, at each depth.
-use Rattle.std.proofs.Common.{◌≡◌, ◌⊎◌, inl, inr, ℕ, zero, suc, sym, subst}
+use Rattle.std.proofs.Common.{inl, inr, ℕ, zero, suc, subst}
 use Rattle.flux_trees.specs.Hedge.{Plain}
 use Rattle.flux_schema.specs.Ty.{Ty}
 use Rattle.flux_schema.specs.Definitions.{Definitions, AreKnown}
@@ -7,7 +7,7 @@ use Rattle.flux_schema.specs.Member.{Member}
 use Rattle.flux_calculus.specs.Query.{Environment}
 use Rattle.flux_calculus.specs.Typing.{Context, Suits}
 use Rattle.flux_calculus.specs.Core.{Core, Procs}
-use Rattle.flux_calculus.specs.Derives.{Derives, Exceeds, calls, here, in_call}
+use Rattle.flux_calculus.specs.Derives.{calls, here, in_call}
 use Rattle.flux_calculus.proofs.Agree.{derives_one, never_both}
 use Rattle.flux_typing.specs.Update.{typed, TypesUpdate}
 use Rattle.flux_typing.specs.Laws.{Grows, AreWellTyped, Runs}

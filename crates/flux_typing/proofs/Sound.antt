@@ -1,5 +1,5 @@
 -- A typed statement derives a member of its type, or it meets a call with none left.
-use Rattle.std.proofs.Common.{◌≡◌, ◌∙◌, ◌⊎◌, inl, inr, ℕ, Bool, true, false, List, [], ◌∷◌, ◌++◌, Option, Some, None, refl, sym, ap, subst}
+use Rattle.std.proofs.Common.{◌≡◌, ◌∙◌, ◌⊎◌, inl, inr, ℕ, Bool, true, false, List, [], ◌∷◌, ◌++◌, Some, None, refl, sym, ap, subst}
 use Rattle.flux_atom.specs.declared.atom.AtomKind.TheVariants as kind
 use Rattle.flux_trees.specs.Hedge.{Plain, nil, elem, join, trees}
 use Rattle.flux_trees.proofs.HedgeLaws.{join-nil, join_assoc, trees-join}

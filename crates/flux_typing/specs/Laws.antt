@@ -1,5 +1,5 @@
 -- Laws of the types of statements and of the acceptance of scripts.
-use Rattle.std.specs.Prelude.{◌≡◌, ◌⊎◌, ℕ, List, [], Some, length, All, IfSome, IsSomeAnd}
+use Rattle.std.specs.Prelude.{◌≡◌, ◌⊎◌, ℕ, [], Some, All, IfSome}
 use Rattle.flux_trees.specs.Hedge.{Plain}
 use Rattle.flux_schema.specs.Ty.{Ty}
 use Rattle.flux_schema.specs.Definitions.{Definitions, body_of, IsKnown, AreKnown, IsGood}
@@ -8,10 +8,11 @@ use Rattle.flux_calculus.specs.declared.ask.Var.{Var}
 use Rattle.flux_calculus.specs.Query.{Query, Environment, found}
 use Rattle.flux_calculus.specs.Typing.{Context, Suits, Types, of_query}
 use Rattle.flux_calculus.specs.Typing as query
-use Rattle.flux_calculus.specs.Core.{Core, skip, nothing, both, choice, binding, snapshot, insert, delete, rename, test, children, left, right, iter, call, Proc, Procs, proc_of, Normal}
+use Rattle.flux_calculus.specs.Core.{Core, Proc, Procs, proc_of, Normal}
 use Rattle.flux_calculus.specs.Derives.{Derives, Exceeds}
 use Rattle.flux_typing.specs.Update.{Outcome, typed, TypesUpdate}
 use Rattle.flux_typing.specs.Accepted.{Accepted}
+use Rattle.flux_typing.specs.Spelled.{IsListed, IsSpelled}
 
 -- a statement has at most one outcome, and so has a script
 abbrev pub UpdateTypingIsUnique : Type 0
@@ -100,24 +101,6 @@ AcceptedScriptsRun =
     × ((w : Plain) → Derives script.procs d [] v script.main w →
     IfSome script.declared (λ e. Member Δ w e.ty))
 
--- each call names a procedure, and has an argument for each of its parameters
-abbrev pub CallsFit : Procs → Core → Type 0
-CallsFit procs (skip at) = Unit {0}
-CallsFit procs (nothing at) = Unit {0}
-CallsFit procs (both at s r) = CallsFit procs s × CallsFit procs r
-CallsFit procs (choice at c s r) = CallsFit procs s × CallsFit procs r
-CallsFit procs (binding at x q s) = CallsFit procs s
-CallsFit procs (snapshot at x s) = CallsFit procs s
-CallsFit procs (insert at q) = Unit {0}
-CallsFit procs (delete at) = Unit {0}
-CallsFit procs (rename at n) = Unit {0}
-CallsFit procs (test at t s) = CallsFit procs s
-CallsFit procs (children at s) = CallsFit procs s
-CallsFit procs (left at s) = CallsFit procs s
-CallsFit procs (right at s) = CallsFit procs s
-CallsFit procs (iter at s) = CallsFit procs s
-CallsFit procs (call at p args) = IsSomeAnd (proc_of procs p) (λ q. length args ≡ length q.params)
-
 -- of known types it is decided whether one is included in another: it is, or there is a forest
 -- against it
 abbrev pub Decides : Definitions → Type 0
@@ -129,11 +112,12 @@ Decides Δ =
 -- inclusion is decided
 abbrev pub QueriesHaveOutcomes : Type 0
 QueriesHaveOutcomes =
-    (Δ : Definitions) (Γ : Context) (q : Query) → IsGood Δ → Decides Δ → AllKnown Δ Γ →
+    (Δ : Definitions) (Γ : Context) (q : Query) → IsGood Δ → Decides Δ → IsListed q →
+    AllKnown Δ Γ →
     (o : query.Outcome) × Types Δ (of_query Γ q) o
 
 abbrev pub UpdatesHaveOutcomes : Type 0
 UpdatesHaveOutcomes =
     (procs : Procs) (Δ : Definitions) (Γ : Context) (t : Ty) (s : Core) →
-    IsGood Δ → Decides Δ → AreKnownProcs Δ procs → CallsFit procs s → AllKnown Δ Γ →
+    IsGood Δ → Decides Δ → AreKnownProcs Δ procs → IsSpelled procs s → AllKnown Δ Γ →
     IsKnown Δ t → (o : Outcome) × TypesUpdate procs Δ Γ t s o

@@ -1,3 +1,4 @@
 pub mod Update
 pub mod Accepted
+pub mod Spelled
 pub mod Laws

@@ -1,5 +1,5 @@
 // The laws of the definitions. Each function here does nothing: its contract is the law.
-ghost use Rattle.flux_typing.specs.Laws.{UpdateTypingIsUnique, AcceptanceIsUnique, UpdateTypingKeepsDefinitions, ResultsAreKnown, TypedStatementsRun, AcceptedScriptsRun};
+ghost use Rattle.flux_typing.specs.Laws.{UpdateTypingIsUnique, AcceptanceIsUnique, UpdateTypingKeepsDefinitions, ResultsAreKnown, TypedStatementsRun, AcceptedScriptsRun, QueriesHaveOutcomes, UpdatesHaveOutcomes};
 
 /// A statement is typed with at most one outcome, a type or a fault at a place, and so is a script.
 pub fn outcome_is_unique()
@@ -27,4 +27,10 @@ pub fn typed_statements_run()
 /// of the type that the script is for.
 pub fn accepted_scripts_run()
     ensures { AcceptedScriptsRun }
+{}
+
+/// Each query and each statement is typed with an outcome.
+pub fn typing_has_outcomes()
+    ensures queries { QueriesHaveOutcomes }
+    ensures updates { UpdatesHaveOutcomes }
 {}

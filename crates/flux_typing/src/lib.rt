@@ -6,5 +6,5 @@ mod laws;
 
 pub use laws::{
     accepted_scripts_run, outcome_is_unique, results_are_known, typed_statements_run,
-    update_typing_keeps_definitions,
+    typing_has_outcomes, update_typing_keeps_definitions,
 };
