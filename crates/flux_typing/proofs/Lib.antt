@@ -11,3 +11,4 @@ pub mod Accepting
 pub mod Ranked
 pub mod QueriesTotal
 pub mod Total
+pub mod Lacking

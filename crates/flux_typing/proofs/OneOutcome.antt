@@ -10,7 +10,7 @@ use Rattle.flux_calculus.specs.Typing as query
 use Rattle.flux_calculus.proofs.OneType as types
 use Rattle.flux_calculus.specs.Core.{Core, Proc, Procs}
 use Rattle.flux_calculus.specs.Fault.{Fault, bad_focus}
-use Rattle.flux_typing.specs.Update.{Outcome, typed, of_the_query, or_fault, Checks, fits, misses, was_faulty, StandsFor, for_one, for_none, Arguments, no_more, one_more, one_wrong, content_of, made, Goal, of_map, behind, tested, Has, stops, goes_on, gives, has_value, of_skip, of_nothing, of_both, of_choice, of_binding, of_snapshot, of_insert, of_delete, of_rename, of_test, of_children, of_left, of_right, of_iter, of_call, at_atom, at_element, at_any, of_empty, of_seq, of_alt, of_star, of_name}
+use Rattle.flux_typing.specs.Update.{Outcome, typed, with_definitions, or_fault, Checks, fits, misses, was_faulty, StandsFor, for_one, for_none, Arguments, no_more, one_more, one_wrong, content_of, made, Goal, of_map, behind, tested, Has, stops, goes_on, gives, has_value, of_skip, of_nothing, of_both, of_choice, of_binding, of_snapshot, of_insert, of_delete, of_rename, of_test, of_children, of_left, of_right, of_iter, of_call, at_atom, at_element, at_any, of_empty, of_seq, of_alt, of_star, of_name}
 
 checks_once : {u : Ty} {f : Ty → Ty → Fault} {a o p : Outcome} → Checks u f a o → Checks u f a p → o ≡ p
 checks_once (fits i) (fits _) = refl
@@ -29,8 +29,8 @@ stands_once (for_one h) (for_none n) = absurd (n _ h)
 stands_once (for_none n) (for_one k) = absurd (n _ k)
 stands_once (for_none n) (for_none _) = refl
 
-same_query : {Δ : Definitions} {Γ : Context} {q : Query} {a b : query.Outcome} → Types Δ (of_query Γ q) a → Types Δ (of_query Γ q) b → of_the_query Δ a ≡ of_the_query Δ b
-same_query {Δ = Δ} d e = ap (of_the_query Δ) (types.once d e)
+same_query : {Δ : Definitions} {Γ : Context} {q : Query} {a b : query.Outcome} → Types Δ (of_query Γ q) a → Types Δ (of_query Γ q) b → with_definitions Δ a ≡ with_definitions Δ b
+same_query {Δ = Δ} d e = ap (with_definitions Δ) (types.once d e)
 
 arguments_once : {Δ : Definitions} {Γ ps : Context} {qs : List Query} {o p : Option Fault} → Arguments Δ Γ ps qs o → Arguments Δ Γ ps qs p → o ≡ p
 arguments_once no_more no_more = refl

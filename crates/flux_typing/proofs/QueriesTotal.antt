@@ -16,7 +16,7 @@ use Rattle.flux_calculus.specs.Typing.{Context, Outcome, typed, faulty, Goal, of
 use Rattle.flux_typing.specs.Update.{StandsFor, for_one, for_none}
 use Rattle.flux_typing.specs.Spelled.{IsRest, IsListed}
 use Rattle.flux_typing.specs.Laws.{AllKnown, Decides}
-use Rattle.flux_typing.proofs.QueryNames.{below_bound, knows}
+use Rattle.flux_typing.proofs.QueryNames.{below_bound, below}
 use Rattle.flux_typing.proofs.Ranked.{rank, body_with, stands_total}
 
 module _ (Δ : Definitions) (good : IsGood Δ) (decide : Decides Δ) where
@@ -26,7 +26,7 @@ module _ (Δ : Definitions) (good : IsGood Δ) (decide : Decides Δ) where
 
   -- what is known of a part's type
   known : (Γ : Context) (q : Query) (t : Ty) → AllKnown Δ Γ → Types Δ (of_query Γ q) (typed t) → IsKnown Δ t
-  known Γ q t v d = knows Δ (length Δ) good.known d v
+  known Γ q t v d = below Δ (length Δ) good.known Γ q t v d
 
   -- ---- maps
 

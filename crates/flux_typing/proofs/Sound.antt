@@ -17,7 +17,7 @@ use Rattle.flux_calculus.proofs.Sound as queries
 use Rattle.flux_calculus.specs.Core.{Core, choice, insert, rename, test, children, call, Proc, Procs, proc_of}
 use Rattle.flux_calculus.specs.Derives.{condition, truth_in, bound_to, Derives, DerivesEach, Exceeds, ExceedsEach, each_end, each_more, in_tree, in_later}
 use Rattle.flux_calculus.specs.Derives as rule
-use Rattle.flux_typing.specs.Update.{of_the_query, Checks, fits, Arguments, no_more, one_more, passes, fails, undecided}
+use Rattle.flux_typing.specs.Update.{with_definitions, Checks, fits, Arguments, no_more, one_more, passes, fails, undecided}
 use Rattle.flux_typing.specs.Update as outcome
 use Rattle.flux_typing.specs.Laws.{Grows}
 use Rattle.flux_typing.proofs.Members.{member_of_body, member_single, single_atomic, one_tree, one_is_tree, element_is, any_is, nothing_is, told, labelled, suits_bound, suits_nothing}
@@ -119,7 +119,7 @@ module _ (procs : Procs) (d : ℕ) where
       let b = members.truth_in (i a.0 a.2) in
       (b.0, ap truth_in a.1 ∙ b.1)
 
-  argument_in : {Δ : Definitions} {Γ : Context} {q : Query} {u t : Ty} {f : Ty → Ty → Fault} {Δ' : Definitions} (a : query.Outcome) → Types Δ (of_query Γ q) a → Checks u f (of_the_query Δ a) (outcome.typed t Δ') → (γ : Environment) → Suits Δ Γ γ → (v : Plain) × (value γ q ≡ Some v) × Member Δ v u
+  argument_in : {Δ : Definitions} {Γ : Context} {q : Query} {u t : Ty} {f : Ty → Ty → Fault} {Δ' : Definitions} (a : query.Outcome) → Types Δ (of_query Γ q) a → Checks u f (with_definitions Δ a) (outcome.typed t Δ') → (γ : Environment) → Suits Δ Γ γ → (v : Plain) × (value γ q ≡ Some v) × Member Δ v u
   argument_in {Δ} (query.typed t) r (fits i) γ h = let a = queries.sound Δ r γ h in (a.0, a.1, i a.0 a.2)
   argument_in (query.faulty e) r c γ h = elim c [ ]
 

@@ -18,13 +18,12 @@ use Rattle.flux_calculus.specs.Query.{Query, place_of}
 use Rattle.flux_calculus.specs.Typing.{Context, content_type, Types, of_query}
 use Rattle.flux_calculus.specs.Typing as query
 use Rattle.flux_calculus.specs.Core.{Core, skip, nothing, both, choice, binding, snapshot, insert, delete, rename, test, children, left, right, iter, call, Proc, Procs, proc_of}
-use Rattle.flux_typing.specs.Update.{Outcome, typed, faulty, or_fault, of_the_query, Checks, fits, misses, was_faulty, StandsFor, for_one, for_none, Arguments, no_more, one_more, one_wrong, content_of, Verdict, passes, fails, undecided, verdict, tested_as, tested, Goal, of_value, of_core, of_map, behind, Has, stops, goes_on, gives, has_value, of_skip, of_nothing, of_both, of_choice, of_binding, of_snapshot, of_insert, of_delete, of_rename, of_test, of_children, of_left, of_right, of_iter, of_call, at_atom, at_element, at_any, of_empty, of_seq, of_alt, of_star, of_name}
+use Rattle.flux_typing.specs.Update.{Outcome, typed, faulty, or_fault, with_definitions, Checks, fits, misses, was_faulty, StandsFor, for_one, for_none, Arguments, no_more, one_more, one_wrong, content_of, Verdict, passes, fails, undecided, verdict, tested_as, tested, Goal, of_value, of_core, of_map, behind, Has, stops, goes_on, gives, has_value, of_skip, of_nothing, of_both, of_choice, of_binding, of_snapshot, of_insert, of_delete, of_rename, of_test, of_children, of_left, of_right, of_iter, of_call, at_atom, at_element, at_any, of_empty, of_seq, of_alt, of_star, of_name}
 use Rattle.flux_typing.specs.Spelled.{IsListed, AreListed, IsSpelled}
 use Rattle.flux_typing.specs.Laws.{AllKnown, AreKnownProcs, Decides}
 use Rattle.flux_typing.proofs.Typed.{succeeds}
 use Rattle.flux_typing.proofs.Kept.{kept, kept_map}
-use Rattle.flux_typing.proofs.QueryNames.{below_bound, content_below, single_below}
-use Rattle.flux_typing.proofs.QueryNames as queries
+use Rattle.flux_typing.proofs.QueryNames.{below_bound, content_below, single_below, below}
 use Rattle.flux_typing.proofs.Names as names
 use Rattle.flux_typing.proofs.Ranked.{rank, body_with, stands_total}
 use Rattle.flux_typing.proofs.QueriesTotal.{query_total}
@@ -42,11 +41,11 @@ module _ (procs : Procs) (Δ : Definitions) (good : IsGood Δ) (types : AreKnown
   HasOne g = (o : Outcome) × Has procs g o × Facts o
 
   core_facts : (Γ : Context) (t : Ty) (s : Core) (o : Outcome) → AllKnown Δ Γ → IsKnown Δ t → Has procs (of_core Δ Γ t s) o → Facts o
-  core_facts Γ t s (typed u Δ') v h d = (kept (succeeds procs d), (names.knows procs (length Δ) results (succeeds procs d) good.known v h).1)
+  core_facts Γ t s (typed u Δ') v h d = (kept (succeeds procs d), names.core_below procs (length Δ) results good.known (succeeds procs d) v h)
   core_facts Γ t s (faulty f) v h d = tt
 
   map_facts : (at : ℕ) (Γ : Context) (t : Ty) (s : Core) (o : Outcome) → AllKnown Δ Γ → IsKnown Δ t → Has procs (of_map at Δ Γ t s) o → Facts o
-  map_facts at Γ t s (typed u Δ') v h d = (kept_map (succeeds procs d), (names.knows_map procs (length Δ) results (succeeds procs d) good.known v h).1)
+  map_facts at Γ t s (typed u Δ') v h d = (kept_map (succeeds procs d), names.map_below procs (length Δ) results good.known (succeeds procs d) v h)
   map_facts at Γ t s (faulty f) v h d = tt
 
   has_core : (Γ : Context) (t : Ty) (s : Core) (o : Outcome) → AllKnown Δ Γ → IsKnown Δ t → Has procs (of_core Δ Γ t s) o → HasOne (of_core Δ Γ t s)
@@ -55,12 +54,12 @@ module _ (procs : Procs) (Δ : Definitions) (good : IsGood Δ) (types : AreKnown
   has_map : (at : ℕ) (Γ : Context) (t : Ty) (s : Core) (o : Outcome) → AllKnown Δ Γ → IsKnown Δ t → Has procs (of_map at Δ Γ t s) o → HasOne (of_map at Δ Γ t s)
   has_map at Γ t s o v h d = (o, d, map_facts at Γ t s o v h d)
 
-  query_facts : (Γ : Context) (q : Query) (a : query.Outcome) → AllKnown Δ Γ → Types Δ (of_query Γ q) a → Facts (of_the_query Δ a)
-  query_facts Γ q (query.typed u) v d = (refl, queries.knows Δ (length Δ) good.known d v)
+  query_facts : (Γ : Context) (q : Query) (a : query.Outcome) → AllKnown Δ Γ → Types Δ (of_query Γ q) a → Facts (with_definitions Δ a)
+  query_facts Γ q (query.typed u) v d = (refl, below Δ (length Δ) good.known Γ q u v d)
   query_facts Γ q (query.faulty f) v d = tt
 
   value_total : (Γ : Context) (q : Query) → IsListed q → AllKnown Δ Γ → HasOne (of_value Δ Γ q)
-  value_total Γ q l v = let a = query_total Δ good decide q l Γ v in (of_the_query Δ a.0, has_value a.1, query_facts Γ q a.0 v a.1)
+  value_total Γ q l v = let a = query_total Δ good decide q l Γ v in (with_definitions Δ a.0, has_value a.1, query_facts Γ q a.0 v a.1)
 
   behind_total : (a : Outcome) (next : Ty → Definitions → Goal) → Facts a → ((u : Ty) → IsKnown Δ u → HasOne (next u Δ)) → HasOne (behind a next)
   behind_total (typed u Δ') next f h = let o = h u f.1 in subst (λ z. HasOne (behind (typed u z) next)) (sym f.0) (o.0, goes_on o.1, o.2)
@@ -101,7 +100,7 @@ module _ (procs : Procs) (Δ : Definitions) (good : IsGood Δ) (types : AreKnown
 
   -- ---- statements
 
-  argument_step : (Γ : Context) (x : Var) (u : Ty) (ps : Context) (q : Query) (qs : List Query) (a : query.Outcome) (o : Outcome) → Types Δ (of_query Γ q) a → Checks u (bad_argument (place_of q)) (of_the_query Δ a) o →
+  argument_step : (Γ : Context) (x : Var) (u : Ty) (ps : Context) (q : Query) (qs : List Query) (a : query.Outcome) (o : Outcome) → Types Δ (of_query Γ q) a → Checks u (bad_argument (place_of q)) (with_definitions Δ a) o →
       ((f : Option Fault) × Arguments Δ Γ ps qs f) → (f : Option Fault) × Arguments Δ Γ ((x, u) ∷ ps) (q ∷ qs) f
   argument_step Γ x u ps q qs a (typed t Δ') d c r = (r.0, one_more d c r.1)
   argument_step Γ x u ps q qs a (faulty f) d c r = (Some f, one_wrong d c)
@@ -110,7 +109,7 @@ module _ (procs : Procs) (Δ : Definitions) (good : IsGood Δ) (types : AreKnown
   arguments_total Γ v [] [] m l k = (None, no_more)
   arguments_total Γ v (p ∷ ps) (q ∷ qs) m l k =
       let a = query_total Δ good decide q l.0 Γ v in
-      let c = checks_total p.1 (bad_argument (place_of q)) (of_the_query Δ a.0) k.0 (query_facts Γ q a.0 v a.1) in
+      let c = checks_total p.1 (bad_argument (place_of q)) (with_definitions Δ a.0) k.0 (query_facts Γ q a.0 v a.1) in
       argument_step Γ p.0 p.1 ps q qs a.0 c.0 a.1 c.1 (arguments_total Γ v ps qs (omega (arith, m)) l.1 k.1)
   arguments_total Γ v [] (q ∷ qs) m l k = absurd (omega (arith, m))
   arguments_total Γ v (p ∷ ps) [] m l k = absurd (omega (arith, m))

@@ -14,7 +14,7 @@ use Rattle.flux_calculus.specs.Typing.{Context, is_within, IsAtomic, content_typ
 use Rattle.flux_calculus.specs.Typing as query
 use Rattle.flux_calculus.specs.Core.{Core, skip, nothing, both, choice, binding, snapshot, insert, delete, rename, test, children, left, right, iter, call, Proc, Procs, proc_of}
 use Rattle.flux_calculus.specs.Fault.{Fault, too_large}
-use Rattle.flux_typing.specs.Update.{Outcome, typed, faulty, Verdict, passes, fails, undecided, verdict, concluded, made, paired, or_fault, of_the_query, Checks, fits, misses, was_faulty, StandsFor, for_one, for_none, Arguments, renamed, content_of, round, tested_type, or_stays, tested_as, tested, Goal, of_value, of_core, of_map, behind, giving, Has, stops, goes_on, gives, has_value, of_skip, of_nothing, of_both, of_choice, of_binding, of_snapshot, of_insert, of_delete, of_rename, of_test, of_children, of_left, of_right, of_iter, of_call, at_atom, at_element, at_any, of_empty, of_seq, of_alt, of_star, of_name}
+use Rattle.flux_typing.specs.Update.{Outcome, typed, faulty, Verdict, passes, fails, undecided, verdict, concluded, made, paired, or_fault, with_definitions, Checks, fits, misses, was_faulty, StandsFor, for_one, for_none, Arguments, renamed, content_of, round, tested_type, or_stays, tested_as, tested, Goal, of_value, of_core, of_map, behind, giving, Has, stops, goes_on, gives, has_value, of_skip, of_nothing, of_both, of_choice, of_binding, of_snapshot, of_insert, of_delete, of_rename, of_test, of_children, of_left, of_right, of_iter, of_call, at_atom, at_element, at_any, of_empty, of_seq, of_alt, of_star, of_name}
 
 pub data Valued : Definitions → Context → Query → Ty → Definitions → Type 0 where
   valued : {Δ : Definitions} {Γ : Context} {q : Query} {u : Ty} → Types Δ (of_query Γ q) (query.typed u) → Valued Δ Γ q u Δ
@@ -95,7 +95,7 @@ module _ (procs : Procs) where
   on_fault : (Q : Ty → Definitions → Type 0) (at : ℕ) (make : Ty → Ty) (e : Fault) (o : Outcome) → faulty e ≡ o → OnTyped Q (made at make o)
   on_fault Q at make e o k = let P : Outcome → Type 0 = λ x. OnTyped Q (made at make x) in subst P k tt
 
-  valued_of : (Δ : Definitions) (Γ : Context) (q : Query) (a : query.Outcome) → Types Δ (of_query Γ q) a → OnTyped (Valued Δ Γ q) (of_the_query Δ a)
+  valued_of : (Δ : Definitions) (Γ : Context) (q : Query) (a : query.Outcome) → Types Δ (of_query Γ q) a → OnTyped (Valued Δ Γ q) (with_definitions Δ a)
   valued_of Δ Γ q (query.typed u) d = valued d
   valued_of Δ Γ q (query.faulty f) d = tt
 

@@ -3,6 +3,7 @@ use Rattle.std.specs.Prelude.{◌≡◌, ◌⊎◌, ℕ, [], Some, All, IfSome}
 use Rattle.flux_trees.specs.Hedge.{Plain}
 use Rattle.flux_schema.specs.Ty.{Ty}
 use Rattle.flux_schema.specs.Definitions.{Definitions, body_of, IsKnown, AreKnown, IsGood}
+use Rattle.flux_schema.specs.Labels.{Lacks, BodiesLack}
 use Rattle.flux_schema.specs.Member.{Member, Included}
 use Rattle.flux_calculus.specs.declared.ask.Var.{Var}
 use Rattle.flux_calculus.specs.Query.{Query, Environment, found}
@@ -12,6 +13,7 @@ use Rattle.flux_calculus.specs.Core.{Core, Proc, Procs, proc_of, Normal}
 use Rattle.flux_calculus.specs.Derives.{Derives, Exceeds}
 use Rattle.flux_typing.specs.Update.{Outcome, typed, TypesUpdate}
 use Rattle.flux_typing.specs.Accepted.{Accepted}
+use Rattle.flux_typing.specs.Labels.{CoreLacks, ContextLacks, ProcsLack}
 use Rattle.flux_typing.specs.Spelled.{IsListed, IsSpelled}
 
 -- a statement has at most one outcome, and so has a script
@@ -49,6 +51,14 @@ ResultsAreKnown =
     (procs : Procs) (Δ : Definitions) (Γ : Context) (t : Ty) (s : Core) (u : Ty) →
     (Δ' : Definitions) → AreKnown Δ → AreKnownProcs Δ procs → AllKnown Δ Γ → IsKnown Δ t →
     TypesUpdate procs Δ Γ t s (typed u Δ') → IsKnown Δ' u
+
+-- a label that stands in nothing that a statement stands on doesn't stand in its type
+abbrev pub ResultsLack : Type 0
+ResultsLack =
+    (procs : Procs) (Δ : Definitions) (Γ : Context) (t : Ty) (s : Core) (u : Ty) →
+    (Δ' : Definitions) → AreKnown Δ → AreKnownProcs Δ procs → AllKnown Δ Γ → IsKnown Δ t →
+    (n : ℕ) → BodiesLack n Δ → ProcsLack n procs → ContextLacks n Γ → CoreLacks n s →
+    Lacks n t → TypesUpdate procs Δ Γ t s (typed u Δ') → Lacks n u
 
 -- the second definitions have each body of the first
 pub record Grows (Δ Δ' : Definitions) : Type 0 where

@@ -1,4 +1,5 @@
 pub mod Update
 pub mod Accepted
 pub mod Spelled
+pub mod Labels
 pub mod Laws

@@ -46,10 +46,10 @@ abbrev pub or_fault : Option Fault → Outcome → Outcome
 or_fault None o = o
 or_fault (Some f) o = faulty f
 
--- the outcome of a query, which adds no definitions
-abbrev pub of_the_query : Definitions → query.Outcome → Outcome
-of_the_query Δ (query.typed t) = typed t Δ
-of_the_query Δ (query.faulty f) = faulty f
+-- the outcome of typing that adds no definitions, as that of a query: those before it stand behind it
+abbrev pub with_definitions : Definitions → query.Outcome → Outcome
+with_definitions Δ (query.typed t) = typed t Δ
+with_definitions Δ (query.faulty f) = faulty f
 
 -- Checks u f a o: the type a that was found stays where it is included in u; else a forest of it
 -- is none of u, and the fault f of the two types comes. A fault stays
@@ -72,12 +72,12 @@ pub data Arguments (Δ : Definitions) (Γ : Context) :
   one_more : {x : Var} {u t : Ty} {Δ' : Definitions} {ps : Context} {q : Query} →
       {qs : List Query} {a : query.Outcome} {o : Option Fault} →
       Types Δ (of_query Γ q) a →
-      Checks u (bad_argument (place_of q)) (of_the_query Δ a) (typed t Δ') →
+      Checks u (bad_argument (place_of q)) (with_definitions Δ a) (typed t Δ') →
       Arguments Δ Γ ps qs o → Arguments Δ Γ ((x, u) ∷ ps) (q ∷ qs) o
   one_wrong : {x : Var} {u : Ty} {ps : Context} {q : Query} {qs : List Query} →
       {a : query.Outcome} {f : Fault} →
       Types Δ (of_query Γ q) a →
-      Checks u (bad_argument (place_of q)) (of_the_query Δ a) (faulty f) →
+      Checks u (bad_argument (place_of q)) (with_definitions Δ a) (faulty f) →
       Arguments Δ Γ ((x, u) ∷ ps) (q ∷ qs) (Some f)
 
 -- what a renaming makes of one tree
@@ -170,7 +170,7 @@ pub data Has (procs : Procs) : Goal → Outcome → Type 0 where
   gives : {o : Outcome} → Has procs (giving o) o
   -- a query has the outcome that it has by itself
   has_value : {Δ : Definitions} {Γ : Context} {q : Query} {a : query.Outcome} →
-      Types Δ (of_query Γ q) a → Has procs (of_value Δ Γ q) (of_the_query Δ a)
+      Types Δ (of_query Γ q) a → Has procs (of_value Δ Γ q) (with_definitions Δ a)
   -- the focus stays
   of_skip : {Δ : Definitions} {Γ : Context} {t : Ty} {at : Span} →
       Has procs (of_core Δ Γ t (skip at)) (typed t Δ)

@@ -1,5 +1,5 @@
 // The laws of the definitions. Each function here does nothing: its contract is the law.
-ghost use Rattle.flux_typing.specs.Laws.{UpdateTypingIsUnique, AcceptanceIsUnique, UpdateTypingKeepsDefinitions, ResultsAreKnown, TypedStatementsRun, AcceptedScriptsRun, QueriesHaveOutcomes, UpdatesHaveOutcomes};
+ghost use Rattle.flux_typing.specs.Laws.{UpdateTypingIsUnique, AcceptanceIsUnique, UpdateTypingKeepsDefinitions, ResultsAreKnown, ResultsLack, TypedStatementsRun, AcceptedScriptsRun, QueriesHaveOutcomes, UpdatesHaveOutcomes};
 
 /// A statement is typed with at most one outcome, a type or a fault at a place, and so is a script.
 pub fn outcome_is_unique()
@@ -12,9 +12,10 @@ pub fn update_typing_keeps_definitions()
     ensures { UpdateTypingKeepsDefinitions }
 {}
 
-/// Each name in the type of a statement is defined.
+/// Each name in the type of a statement is defined, and each label in it is given.
 pub fn results_are_known()
-    ensures { ResultsAreKnown }
+    ensures names { ResultsAreKnown }
+    ensures labels { ResultsLack }
 {}
 
 /// A typed statement gives a member of its type, or it meets a call with none left, on each member
