@@ -1,0 +1,5 @@
+pub mod Tables
+pub mod Laid
+pub mod Seats
+pub mod Decoded
+pub mod Kept

@@ -1,0 +1,103 @@
+// Cells that are linked by their numbers.
+ghost use Rattle.std.specs.Prelude.{◌≡◌, ◌<◌, length, slice_get, Some};
+ghost use Rattle.flux_nodes.specs.declared.cell.Kind.TheVariants.{Elem};
+ghost use Rattle.flux_nodes.specs.declared.cell.Cell.{Cell};
+ghost use Rattle.flux_nodes.specs.Laid.{
+    edit, with_kind, with_parent, with_prev, with_next, with_first, with_last,
+};
+
+use flux_atom::{Atom, Name};
+
+/// The number of a node, which is the place of its cell in the table.
+#[derive(Clone, Copy, Debug, PartialEq, Eq)]
+pub struct NodeId(pub u64);
+
+/// What stands at a node.
+#[derive(Drop)]
+pub enum Kind {
+    Elem(Name),
+    Leaf(Atom),
+    /// No node: the cell is free, and `next` is the free cell after it.
+    Free,
+}
+
+/// A node and its neighbours. It has at most 128 bytes.
+#[derive(Drop)]
+pub struct Cell {
+    pub kind: Kind,
+    pub parent: Option<NodeId>,
+    pub prev: Option<NodeId>,
+    pub next: Option<NodeId>,
+    pub first: Option<NodeId>,
+    pub last: Option<NodeId>,
+}
+
+pub(crate) fn put_parent(cells: &mut [Cell], at: NodeId, to: Option<NodeId>)
+    requires { at.0 < length cells.old }
+    ensures { cells.new ≡ edit (with_parent to) at.0 cells.old }
+{
+    cells[at.0 as usize].parent = to;
+}
+
+pub(crate) fn put_prev(cells: &mut [Cell], at: NodeId, to: Option<NodeId>)
+    requires { at.0 < length cells.old }
+    ensures { cells.new ≡ edit (with_prev to) at.0 cells.old }
+{
+    cells[at.0 as usize].prev = to;
+}
+
+pub(crate) fn put_next(cells: &mut [Cell], at: NodeId, to: Option<NodeId>)
+    requires { at.0 < length cells.old }
+    ensures { cells.new ≡ edit (with_next to) at.0 cells.old }
+{
+    cells[at.0 as usize].next = to;
+}
+
+pub(crate) fn put_first(cells: &mut [Cell], at: NodeId, to: Option<NodeId>)
+    requires { at.0 < length cells.old }
+    ensures { cells.new ≡ edit (with_first to) at.0 cells.old }
+{
+    cells[at.0 as usize].first = to;
+}
+
+pub(crate) fn put_last(cells: &mut [Cell], at: NodeId, to: Option<NodeId>)
+    requires { at.0 < length cells.old }
+    ensures { cells.new ≡ edit (with_last to) at.0 cells.old }
+{
+    cells[at.0 as usize].last = to;
+}
+
+pub(crate) fn put_label(cells: &mut [Cell], at: NodeId, name: Name)
+    requires { at.0 < length cells.old }
+    ensures { cells.new ≡ edit (with_kind (Elem name)) at.0 cells.old }
+{
+    cells[at.0 as usize].kind = Kind::Elem(name);
+}
+
+pub(crate) fn parent_of(cells: &[Cell], at: NodeId) -> Option<NodeId>
+    requires { at.0 < length cells.now }
+    ensures { (c : Cell) → slice_get cells.now at.0 ≡ Some c → result ≡ c.parent }
+{
+    cells[at.0 as usize].parent
+}
+
+pub(crate) fn prev_of(cells: &[Cell], at: NodeId) -> Option<NodeId>
+    requires { at.0 < length cells.now }
+    ensures { (c : Cell) → slice_get cells.now at.0 ≡ Some c → result ≡ c.prev }
+{
+    cells[at.0 as usize].prev
+}
+
+pub(crate) fn next_of(cells: &[Cell], at: NodeId) -> Option<NodeId>
+    requires { at.0 < length cells.now }
+    ensures { (c : Cell) → slice_get cells.now at.0 ≡ Some c → result ≡ c.next }
+{
+    cells[at.0 as usize].next
+}
+
+pub(crate) fn first_of(cells: &[Cell], at: NodeId) -> Option<NodeId>
+    requires { at.0 < length cells.now }
+    ensures { (c : Cell) → slice_get cells.now at.0 ≡ Some c → result ≡ c.first }
+{
+    cells[at.0 as usize].first
+}

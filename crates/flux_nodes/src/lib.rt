@@ -1,0 +1,12 @@
+//! A document as a table of linked nodes, which keep their numbers while it is edited.
+#![tactic(auto)]
+
+mod cell;
+mod links;
+mod parents;
+mod run;
+mod table;
+
+pub use cell::{Cell, Kind, NodeId};
+pub use run::{Place, Run};
+pub use table::Table;

@@ -1,0 +1,136 @@
+// A document as a table of linked nodes.
+ghost use Rattle.std.specs.Prelude.{◌≡◌, ℕ};
+ghost use Rattle.std.proofs.Math.ListN.{get_or};
+ghost use Rattle.flux_trees.specs.Hedge.{nil};
+ghost use Rattle.flux_trees.specs.Edits.{place_in};
+ghost use Rattle.flux_nodes.specs.Tables.{
+    RunAt, PlaceAt, ElementAt, NodeAt, IsHandedOut, IsCellOf, IsUnlinked, IsRunOf, made_in,
+    tree_place, empty, after_unlink, after_link, after_label,
+};
+
+use crate::cell::{Cell, NodeId, put_label};
+use crate::links::{link, unlink};
+use crate::run::{Place, Run};
+use flux_atom::Name;
+use std::alloc::Global;
+use std::marker::Model;
+
+/// The nodes of a document, and of runs of trees that are in no document, each in a cell of its
+/// own. A node keeps its number as long as it isn't freed.
+#[derive(Drop)]
+pub struct Table {
+    cells: Vec<Cell>,
+    top: Option<NodeId>,
+    end: Option<NodeId>,
+    // the free cell that is used next
+    free: Option<NodeId>,
+    made: u64,
+}
+
+impl Model for Table {
+    ghost use Rattle.flux_nodes.specs.Tables.{Meaning, meaning_code};
+    ghost use Rattle.flux_nodes.specs.Decoded.{meaning_of};
+    ghost use Rattle.flux_nodes.specs.Kept.{IsHeld};
+
+    ghost Value = { Meaning };
+
+    ghost coded = { meaning_code };
+
+    ghost view = { λ t. meaning_of t.cells.items t.top t.free };
+
+    ghost invariant = { λ t. IsHeld t.cells.items t.top t.end t.free t.made };
+}
+
+impl Table {
+    /// The empty table, which takes no memory.
+    pub fn new(alloc: Global) -> Self
+        ensures { result ≡ empty }
+    {
+        Table {
+            cells: Vec::new(alloc),
+            top: None,
+            end: None,
+            free: None,
+            made: 0,
+        }
+    }
+
+    /// How many nodes there are, in the document and in unlinked runs.
+    pub fn made(&self) -> u64
+        ensures { result ≡ made_in self.now }
+    {
+        self.made
+    }
+
+    /// The cell of a node.
+    pub fn cell(&self, node: NodeId) -> &Cell
+        requires { IsHandedOut self.now node }
+        ensures linked { (at : NodeAt self.now.document node) →
+            IsCellOf result.now at.frames at.tree }
+        ensures unlinked { (i : ℕ) (at : NodeAt (get_or self.now.unlinked i nil) node) →
+            IsCellOf result.now at.frames at.tree }
+    {
+        &self.cells[node.0 as usize]
+    }
+
+    /// The trees of the document.
+    pub fn top(&self) -> Option<Run>
+        ensures { IsRunOf result self.now.document }
+    {
+        match (self.top, self.end) {
+            (Some(first), Some(last)) => Some(Run { first, last }),
+            _ => None,
+        }
+    }
+
+    /// Where a run of the document stands.
+    pub fn place_of(&self, run: Run) -> Place
+        requires { RunAt self.now.document run }
+        ensures { (at : RunAt self.now.document run) → place_in at.frames ≡ tree_place result }
+    {
+        let first = self.cell(run.first);
+        Place {
+            parent: first.parent,
+            after: first.prev,
+        }
+    }
+
+    /// Takes a run out of the document. It is an unlinked run then.
+    pub fn unlink_range(&mut self, run: Run)
+        requires { RunAt self.old.document run }
+        ensures { (at : RunAt self.old.document run) →
+            self.new ≡ after_unlink self.old run at.frames at.trees }
+    {
+        unlink(
+            self.cells.as_mut_slice(),
+            &mut self.top,
+            &mut self.end,
+            run,
+        );
+    }
+
+    /// Puts an unlinked run at a place of the document.
+    pub fn link_range(&mut self, place: Place, run: Run)
+        requires place { PlaceAt self.old.document place }
+        requires run { IsUnlinked self.old run }
+        ensures { (at : PlaceAt self.old.document place) →
+            self.new ≡ after_link self.old run at.frames }
+    {
+        link(
+            self.cells.as_mut_slice(),
+            &mut self.top,
+            &mut self.end,
+            place,
+            run,
+        );
+    }
+
+    /// Gives an element of the document another label.
+    pub fn set_label(&mut self, node: NodeId, name: Name)
+        requires { ElementAt self.old.document node }
+        ensures { (at : ElementAt self.old.document node) →
+            self.new ≡ after_label self.old node name at.frames at.inside }
+    {
+        put_label(self.cells.as_mut_slice(), node, name);
+    }
+}
