@@ -6,3 +6,4 @@ pub mod MoveLaws
 pub mod SeenLaws
 pub mod CallLaws
 pub mod FrameLaws
+pub mod TableCalls

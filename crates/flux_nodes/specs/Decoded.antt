@@ -65,4 +65,3 @@ spare_from cells (suc k) (Some m) = m.0 ∷ spare_from cells k (next_in (slice_g
 abbrev pub meaning_of : List Cell → Option NodeId → Option NodeId → Meaning
 meaning_of cells t f =
     record { document = hedge_from cells (length cells) t; unlinked = runs_from cells t 0 cells; spare = spare_from cells (length cells) f }
-

@@ -3,7 +3,13 @@ ghost use Rattle.std.specs.Prelude.{◌≡◌, ◌<◌, length, slice_get, Some}
 ghost use Rattle.flux_nodes.specs.declared.cell.Kind.TheVariants.{Elem};
 ghost use Rattle.flux_nodes.specs.declared.cell.Cell.{Cell};
 ghost use Rattle.flux_nodes.specs.Laid.{
-    edit, with_kind, with_parent, with_prev, with_next, with_first, with_last,
+  edit,
+  with_kind,
+  with_parent,
+  with_prev,
+  with_next,
+  with_first,
+  with_last,
 };
 
 use flux_atom::{Atom, Name};

@@ -2,7 +2,13 @@
 ghost use Rattle.std.specs.Prelude.{◌≡◌, length};
 ghost use Rattle.flux_nodes.specs.Seats.{ahead, ahead_top, behind, behind_top};
 ghost use Rattle.flux_nodes.specs.Kept.{
-    IsWithin, HasRun, HasPlace, IsTable, Follows, seat_unlink, seat_link,
+  IsWithin,
+  HasRun,
+  HasPlace,
+  IsTable,
+  Follows,
+  seat_unlink,
+  seat_link,
 };
 
 use crate::cell::{

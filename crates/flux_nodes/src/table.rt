@@ -4,8 +4,20 @@ ghost use Rattle.std.proofs.Math.ListN.{get_or};
 ghost use Rattle.flux_trees.specs.Hedge.{nil};
 ghost use Rattle.flux_trees.specs.Edits.{place_in};
 ghost use Rattle.flux_nodes.specs.Tables.{
-    RunAt, PlaceAt, ElementAt, NodeAt, IsHandedOut, IsCellOf, IsUnlinked, IsRunOf, made_in,
-    tree_place, empty, after_unlink, after_link, after_label,
+  RunAt,
+  PlaceAt,
+  ElementAt,
+  NodeAt,
+  IsHandedOut,
+  IsCellOf,
+  IsUnlinked,
+  IsRunOf,
+  made_in,
+  tree_place,
+  empty,
+  after_unlink,
+  after_link,
+  after_label,
 };
 
 use crate::cell::{Cell, NodeId, put_label};
@@ -77,10 +89,9 @@ impl Table {
     pub fn top(&self) -> Option<Run>
         ensures { IsRunOf result self.now.document }
     {
-        match (self.top, self.end) {
-            (Some(first), Some(last)) => Some(Run { first, last }),
-            _ => None,
-        }
+        let first = self.top?;
+        let last = self.end?;
+        Some(Run { first, last })
     }
 
     /// Where a run of the document stands.
@@ -101,12 +112,7 @@ impl Table {
         ensures { (at : RunAt self.old.document run) →
             self.new ≡ after_unlink self.old run at.frames at.trees }
     {
-        unlink(
-            self.cells.as_mut_slice(),
-            &mut self.top,
-            &mut self.end,
-            run,
-        );
+        unlink(self.cells.as_mut_slice(), &mut self.top, &mut self.end, run);
     }
 
     /// Puts an unlinked run at a place of the document.
