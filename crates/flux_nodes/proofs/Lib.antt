@@ -7,3 +7,5 @@ pub mod SeenLaws
 pub mod CallLaws
 pub mod FrameLaws
 pub mod TableCalls
+pub mod FreeLaws
+pub mod FreeCalls

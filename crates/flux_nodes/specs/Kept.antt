@@ -1,5 +1,5 @@
 -- What the cells of a table keep, and what the calls on cells do.
-use Rattle.std.specs.Prelude.{◌≡◌, ◌⊎◌, ℕ, ◌+◌, ◌<◌, length, List, [], ◌∷◌, cond, Option, Some, None}
+use Rattle.std.specs.Prelude.{◌≡◌, ◌⊎◌, ℕ, ◌+◌, ◌<◌, ◌≤◌, length, List, [], ◌∷◌, cond, Option, Some, None}
 use Rattle.std.specs.List.{slice_get, sum_by}
 use Rattle.std.proofs.Math.ListN.{get_or, set}
 use Rattle.flux_trees.specs.Hedge.{Hedge, nil, elem, leaf, size}
@@ -114,12 +114,13 @@ held [] = 0
 held (c ∷ cs) = cond (is_kept c.kind) 1 0 + held cs
 
 -- a table with this unlinked run
-pub record HasLoose (cells : List Cell) (f : Option NodeId) (run : Run) : Type 0 where
+pub record HasLoose (cells : List Cell) (f : Option NodeId) (made : ℕ) (run : Run) : Type 0 where
   pub top : Option NodeId
   pub end : Option NodeId
   pub meaning : Meaning
   pub table : IsTable cells top end f meaning
   pub loose : IsLoose meaning run
+  pub enough : size (trees_at meaning run) ≤ made
 
 abbrev pub spliced : List Cell → Option NodeId → Option NodeId → List Cell
 spliced cs None w = cs

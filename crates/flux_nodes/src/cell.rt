@@ -11,6 +11,7 @@ ghost use Rattle.flux_nodes.specs.Laid.{
   with_first,
   with_last,
 };
+ghost use Rattle.flux_nodes.specs.Kept.{free_cell};
 
 use flux_atom::{Atom, Name};
 
@@ -36,6 +37,22 @@ pub struct Cell {
     pub next: Option<NodeId>,
     pub first: Option<NodeId>,
     pub last: Option<NodeId>,
+}
+
+impl Cell {
+    // A free cell, and the free cell after it.
+    pub(crate) fn free(next: Option<NodeId>) -> Cell
+        ensures { result ≡ free_cell next }
+    {
+        Cell {
+            kind: Kind::Free,
+            parent: None,
+            prev: None,
+            next,
+            first: None,
+            last: None,
+        }
+    }
 }
 
 pub(crate) fn put_parent(cells: &mut [Cell], at: NodeId, to: Option<NodeId>)
@@ -106,4 +123,18 @@ pub(crate) fn first_of(cells: &[Cell], at: NodeId) -> Option<NodeId>
     ensures { (c : Cell) → slice_get cells.now at.0 ≡ Some c → result ≡ c.first }
 {
     cells[at.0 as usize].first
+}
+
+pub(crate) fn last_of(cells: &[Cell], at: NodeId) -> Option<NodeId>
+    requires { at.0 < length cells.now }
+    ensures { (c : Cell) → slice_get cells.now at.0 ≡ Some c → result ≡ c.last }
+{
+    cells[at.0 as usize].last
+}
+
+pub(crate) fn put_free(cells: &mut [Cell], at: NodeId, next: Option<NodeId>)
+    requires { at.0 < length cells.old }
+    ensures { cells.new ≡ edit (λ _. free_cell next) at.0 cells.old }
+{
+    cells[at.0 as usize] = Cell::free(next);
 }

@@ -2,6 +2,7 @@
 #![tactic(auto)]
 
 mod cell;
+mod freeing;
 mod links;
 mod parents;
 mod run;

@@ -18,9 +18,11 @@ ghost use Rattle.flux_nodes.specs.Tables.{
   after_unlink,
   after_link,
   after_label,
+  after_free,
 };
 
 use crate::cell::{Cell, NodeId, put_label};
+use crate::freeing::free_run;
 use crate::links::{link, unlink};
 use crate::run::{Place, Run};
 use flux_atom::Name;
@@ -138,5 +140,19 @@ impl Table {
             self.new ≡ after_label self.old node name at.frames at.inside }
     {
         put_label(self.cells.as_mut_slice(), node, name);
+    }
+
+    /// Frees the nodes of an unlinked run. Their numbers are the next to be used, in document
+    /// order.
+    pub fn free_range(&mut self, run: Run)
+        requires { IsUnlinked self.old run }
+        ensures { self.new ≡ after_free self.old run }
+    {
+        free_run(
+            self.cells.as_mut_slice(),
+            &mut self.free,
+            &mut self.made,
+            run,
+        );
     }
 }
