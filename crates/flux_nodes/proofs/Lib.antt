@@ -9,3 +9,4 @@ pub mod FrameLaws
 pub mod TableCalls
 pub mod FreeLaws
 pub mod FreeCalls
+pub mod SpareLaws

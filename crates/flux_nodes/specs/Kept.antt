@@ -138,6 +138,12 @@ abbrev pub IsFreed : List Cell → List Cell → ℕ → Option NodeId → Type 
 IsFreed cs bs m on =
     (c : Cell) → slice_get cs m ≡ Some c → (bs ≡ freed cs m c.next c.first c.last) × (on ≡ going_on c.last c.first c.next)
 
+-- the free list
+pub record HasSpare (cells : List Cell) (f : Option NodeId) : Type 0 where
+  pub spare : List ℕ
+  pub chain : IsSpare cells spare
+  pub head_is : f ≡ spare_head spare
+
 -- what the fields of a table keep
 pub record IsHeld (cells : List Cell) (t e f : Option NodeId) (made : ℕ) : Type 0 where
   pub table : IsTable cells t e f (meaning_of cells t f)

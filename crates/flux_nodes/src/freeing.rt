@@ -1,9 +1,9 @@
 // Cells that are put on the free list.
-ghost use Rattle.std.specs.Prelude.{◌≡◌, ◌<◌, ◌+◌, length, slice_get, Some};
+ghost use Rattle.std.specs.Prelude.{◌≡◌, ◌<◌, ◌+◌, length, drop, slice_get, Some};
 ghost use Rattle.flux_trees.specs.Hedge.{size};
 ghost use Rattle.flux_nodes.specs.declared.cell.Cell.{Cell};
 ghost use Rattle.flux_nodes.specs.Tables.{after_free, trees_at};
-ghost use Rattle.flux_nodes.specs.Kept.{IsWithin, IsFreed, HasLoose, IsTable};
+ghost use Rattle.flux_nodes.specs.Kept.{IsWithin, IsFreed, HasLoose, IsTable, HasSpare, spare_head};
 
 use crate::cell::{Cell, NodeId, first_of, last_of, next_of, put_free, put_next};
 use crate::run::Run;
@@ -47,4 +47,19 @@ pub(crate) fn free_run(cells: &mut [Cell], free: &mut Option<NodeId>, made: &mut
     }
     put_next(cells, tail, *free);
     *free = Some(run.first);
+}
+
+// The `i`-th cell of the free list, from 0, if there are so many.
+pub(crate) fn nth_free(cells: &[Cell], free: Option<NodeId>, i: u64) -> Option<NodeId>
+    requires { HasSpare cells.now free }
+    ensures { (h : HasSpare cells.now free) → result ≡ spare_head (drop i h.spare) }
+{
+    let mut at = free;
+    'steps: for _step in 0..i {
+        match at {
+            Some(node) => at = next_of(cells, node),
+            None => return None,
+        }
+    }
+    at
 }

@@ -1,5 +1,5 @@
 // A document as a table of linked nodes.
-ghost use Rattle.std.specs.Prelude.{◌≡◌, ℕ};
+ghost use Rattle.std.specs.Prelude.{◌≡◌, ◌<◌, ◌^◌, ℕ};
 ghost use Rattle.std.proofs.Math.ListN.{get_or};
 ghost use Rattle.flux_trees.specs.Hedge.{nil};
 ghost use Rattle.flux_trees.specs.Edits.{place_in};
@@ -13,6 +13,7 @@ ghost use Rattle.flux_nodes.specs.Tables.{
   IsUnlinked,
   IsRunOf,
   made_in,
+  supply,
   tree_place,
   empty,
   after_unlink,
@@ -22,7 +23,7 @@ ghost use Rattle.flux_nodes.specs.Tables.{
 };
 
 use crate::cell::{Cell, NodeId, put_label};
-use crate::freeing::free_run;
+use crate::freeing::{free_run, nth_free};
 use crate::links::{link, unlink};
 use crate::run::{Place, Run};
 use flux_atom::Name;
@@ -74,6 +75,22 @@ impl Table {
         ensures { result ≡ made_in self.now }
     {
         self.made
+    }
+
+    /// The `i`-th number, from 0, that new nodes will get.
+    pub fn next_number(&self, i: u64) -> u64
+        requires { i < 2 ^ 32 }
+        ensures { result ≡ supply self.now i }
+    {
+        let len = self.cells.len() as u64;
+        let spare = len - self.made;
+        if i >= spare {
+            return len + (i - spare);
+        }
+        match nth_free(self.cells.as_slice(), self.free, i) {
+            Some(node) => node.0,
+            None => unreachable!(),
+        }
     }
 
     /// The cell of a node.
