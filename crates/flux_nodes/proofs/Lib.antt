@@ -10,3 +10,5 @@ pub mod TableCalls
 pub mod FreeLaws
 pub mod FreeCalls
 pub mod SpareLaws
+pub mod NumberLaws
+pub mod EncloseLaws

@@ -3,3 +3,4 @@ pub mod Laid
 pub mod Seats
 pub mod Decoded
 pub mod Kept
+pub mod Built

@@ -138,3 +138,10 @@ pub(crate) fn put_free(cells: &mut [Cell], at: NodeId, next: Option<NodeId>)
 {
     cells[at.0 as usize] = Cell::free(next);
 }
+
+pub(crate) fn put_cell(cells: &mut [Cell], at: NodeId, cell: Cell)
+    requires { at.0 < length cells.old }
+    ensures { cells.new ≡ edit (λ _. cell) at.0 cells.old }
+{
+    cells[at.0 as usize] = cell;
+}

@@ -1,6 +1,7 @@
 //! A document as a table of linked nodes, which keep their numbers while it is edited.
 #![tactic(auto)]
 
+mod build;
 mod cell;
 mod freeing;
 mod links;

@@ -40,7 +40,7 @@ fn put_ahead(
 }
 
 // What stands before `next` under `parent` becomes `to`.
-fn put_behind(
+pub(crate) fn put_behind(
     cells: &mut [Cell],
     end: &mut Option<NodeId>,
     parent: Option<NodeId>,
