@@ -12,3 +12,4 @@ pub mod FreeCalls
 pub mod SpareLaws
 pub mod NumberLaws
 pub mod EncloseLaws
+pub mod BuildLaws

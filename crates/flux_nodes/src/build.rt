@@ -6,7 +6,14 @@ ghost use Rattle.flux_forest.specs.Flat.{hedge_of};
 ghost use Rattle.flux_nodes.specs.Laid.{id};
 ghost use Rattle.flux_nodes.specs.Kept.{IsWithin};
 ghost use Rattle.flux_nodes.specs.Built.{
-    HasTrees, IsEnclosed, IsLastBefore, HasNode, CanBuild, IsBuilt, numbers_of, kind_of,
+  HasTrees,
+  IsEnclosed,
+  IsLastBefore,
+  HasNode,
+  CanBuild,
+  IsBuilt,
+  numbers_of,
+  kind_of,
 };
 
 use crate::cell::{Cell, Kind, NodeId, prev_of, put_cell, put_next};
@@ -16,11 +23,7 @@ use crate::run::Run;
 use flux_forest::{Item, Node};
 
 // The tree before one, or the last of all.
-fn last_before(
-    cells: &[Cell],
-    after: Option<NodeId>,
-    last: Option<NodeId>,
-) -> Option<NodeId>
+fn last_before(cells: &[Cell], after: Option<NodeId>, last: Option<NodeId>) -> Option<NodeId>
     requires { IsWithin after (length cells.now) }
     ensures { IsLastBefore cells.now after last result }
 {
@@ -84,13 +87,7 @@ fn first_inside(numbers: &[NodeId], i: usize, size: usize) -> Option<NodeId>
 }
 
 // Puts node `i` before the trees behind it, and tells by `last` which tree is the last.
-fn put_node(
-    cells: &mut [Cell],
-    last: &mut Option<NodeId>,
-    numbers: &[NodeId],
-    i: usize,
-    node: Node,
-)
+fn put_node(cells: &mut [Cell], last: &mut Option<NodeId>, numbers: &[NodeId], i: usize, node: Node)
     requires { HasNode cells.old last.old numbers.now i node }
     ensures { (h : HasNode cells.old last.old numbers.now i node) →
         IsBuilt cells.old cells.new (number h.tree (beyond i (numbers_of numbers.now))) last.new }
