@@ -13,3 +13,4 @@ pub mod SpareLaws
 pub mod NumberLaws
 pub mod EncloseLaws
 pub mod BuildLaws
+pub mod BuildingLaws

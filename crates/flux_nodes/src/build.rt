@@ -107,3 +107,17 @@ fn put_node(cells: &mut [Cell], last: &mut Option<NodeId>, numbers: &[NodeId], i
     put_cell(cells, at, cell);
     put_behind(cells, last, None, after, Some(at));
 }
+
+// Builds the trees, node `i` in the cell of number `i`, and tells the last tree.
+pub(crate) fn build(cells: &mut [Cell], mut nodes: Vec<Node>, numbers: &[NodeId]) -> Option<NodeId>
+    requires { CanBuild cells.old nodes.items numbers.now }
+    ensures { IsBuilt cells.old cells.new
+        (number (hedge_of nodes.items) (numbers_of numbers.now)) result }
+{
+    let mut last = None;
+    'nodes: while let Some(node) = nodes.pop() {
+        let i = nodes.len();
+        put_node(cells, &mut last, numbers, i, node);
+    }
+    last
+}
