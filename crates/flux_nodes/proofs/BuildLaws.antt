@@ -13,9 +13,9 @@ use Rattle.flux_nodes.specs.declared.cell.NodeId.{NodeId}
 use Rattle.flux_nodes.specs.declared.cell.Kind.{Kind}
 use Rattle.flux_nodes.specs.declared.cell.Kind.TheVariants.{Elem, Leaf}
 use Rattle.flux_nodes.specs.declared.cell.Cell.{Cell}
-use Rattle.flux_nodes.specs.Laid.{id, first_id, last_id, elem_cell, leaf_cell, IsLaid, one_if, times, edit}
+use Rattle.flux_nodes.specs.Laid.{numbers_of, id, first_id, last_id, elem_cell, leaf_cell, IsLaid, one_if, times, edit}
 use Rattle.flux_nodes.specs.Seats.{behind, behind_top}
-use Rattle.flux_nodes.specs.Built.{numbers_of, kind_of, IsHeadNode, IsBuilt, HasTrees, IsEnclosed, HasNode}
+use Rattle.flux_nodes.specs.Built.{kind_of, IsHeadNode, IsBuilt, HasTrees, IsEnclosed, HasNode}
 use Rattle.flux_nodes.proofs.LaidLaws.{one_if-same, kept, last_id-join}
 use Rattle.flux_nodes.proofs.NumberLaws.{number-opened, number-behind, first-some, first-none, size-number, same_at}
 use Rattle.flux_nodes.proofs.EncloseLaws.{IsFront, front, front-last}

@@ -10,8 +10,8 @@ use Rattle.flux_forest.specs.Flat.{element_node, leaf_node, flat, hedge_of, IsFl
 use Rattle.flux_forest.proofs.FlatLaws.{flat-join, length-flat}
 use Rattle.flux_nodes.specs.declared.cell.NodeId.{NodeId}
 use Rattle.flux_nodes.specs.declared.cell.Cell.{Cell}
-use Rattle.flux_nodes.specs.Laid.{id, first_id, last_id, IsLaid, one_if, times}
-use Rattle.flux_nodes.specs.Built.{numbers_of, IsHeadNode, IsBuilt, HasNode, CanBuild}
+use Rattle.flux_nodes.specs.Laid.{numbers_of, id, first_id, last_id, IsLaid, one_if, times}
+use Rattle.flux_nodes.specs.Built.{IsHeadNode, IsBuilt, HasNode, CanBuild}
 use Rattle.flux_nodes.proofs.LaidLaws.{times-join}
 use Rattle.flux_nodes.proofs.NumberLaws.{number-opened, number-behind, number-same, same_at, times-number, hits, hits-add}
 

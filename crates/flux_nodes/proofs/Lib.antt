@@ -14,3 +14,4 @@ pub mod NumberLaws
 pub mod EncloseLaws
 pub mod BuildLaws
 pub mod BuildingLaws
+pub mod TakingLaws

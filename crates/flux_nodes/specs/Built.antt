@@ -12,11 +12,7 @@ use Rattle.flux_nodes.specs.declared.cell.NodeId.{NodeId}
 use Rattle.flux_nodes.specs.declared.cell.Kind.{Kind}
 use Rattle.flux_nodes.specs.declared.cell.Kind.TheVariants.{Elem, Leaf}
 use Rattle.flux_nodes.specs.declared.cell.Cell.{Cell}
-use Rattle.flux_nodes.specs.Laid.{id, first_id, last_id, IsLaid, times, one_if}
-
--- the numbers of a list, as a supply
-abbrev pub numbers_of : List NodeId → Supply
-numbers_of ns i = (get_or ns i (id 0)).0
+use Rattle.flux_nodes.specs.Laid.{numbers_of, id, first_id, last_id, IsLaid, times, one_if}
 
 -- what the cell of a node holds
 abbrev pub kind_of : Item → Kind

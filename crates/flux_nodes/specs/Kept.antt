@@ -1,5 +1,5 @@
 -- What the cells of a table keep, and what the calls on cells do.
-use Rattle.std.specs.Prelude.{◌≡◌, ◌⊎◌, ℕ, ◌+◌, ◌<◌, ◌≤◌, length, List, [], ◌∷◌, cond, Option, Some, None}
+use Rattle.std.specs.Prelude.{◌≡◌, ◌⊎◌, ℕ, ◌+◌, ◌-◌, ◌<◌, ◌≤◌, length, drop, List, [], ◌∷◌, ◌++◌, cond, Option, Some, None}
 use Rattle.std.specs.List.{slice_get, sum_by}
 use Rattle.std.proofs.Math.ListN.{get_or, set}
 use Rattle.flux_trees.specs.Hedge.{Hedge, nil, elem, leaf, size}
@@ -11,6 +11,9 @@ use Rattle.flux_nodes.specs.declared.run.Place.{Place}
 use Rattle.flux_nodes.specs.Tables.{Meaning, trees_at, made_in}
 use Rattle.flux_nodes.specs.Decoded.{is_kept, meaning_of}
 use Rattle.flux_nodes.specs.Laid.{id, first_id, last_id, IsLaid, times, one_if, edit, with_next}
+use Rattle.flux_trees.specs.Edits.{preceded}
+use Rattle.flux_nodes.specs.Tables.{copies}
+use Rattle.flux_nodes.specs.Laid.{numbers_of}
 use Rattle.flux_nodes.specs.Seats.{IsDoc, Seat, seated, parent_of}
 
 abbrev pub spare_head : List ℕ → Option NodeId
@@ -143,6 +146,18 @@ pub record HasSpare (cells : List Cell) (f : Option NodeId) : Type 0 where
   pub spare : List ℕ
   pub chain : IsSpare cells spare
   pub head_is : f ≡ spare_head spare
+
+-- the first number of the free list is taken, or else that of a new cell
+abbrev pub IsTaken : List Cell → List Cell → List ℕ → Option NodeId → NodeId → Type 0
+IsTaken old new [] f node = (node.0 ≡ length old) × (new ≡ old ++ free_cell None ∷ []) × (f ≡ None)
+IsTaken old new (m ∷ ms) f node = (node.0 ≡ m) × (new ≡ old) × (f ≡ spare_head ms)
+
+-- the first k numbers are taken, where the free list was ms
+pub record AreTaken (old new : List Cell) (ms : List ℕ) (f : Option NodeId) (numbers : List NodeId) (k : ℕ) : Type 0 where
+  pub cells_are : new ≡ old ++ copies (k - length ms) (free_cell None)
+  pub free_is : f ≡ spare_head (drop k ms)
+  pub length_is : length numbers ≡ k
+  pub numbers_are : (i : ℕ) → i < k → numbers_of numbers i ≡ preceded ms (λ j. length old + j) i
 
 -- what the fields of a table keep
 pub record IsHeld (cells : List Cell) (t e f : Option NodeId) (made : ℕ) : Type 0 where

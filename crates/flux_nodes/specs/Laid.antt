@@ -2,6 +2,8 @@
 use Rattle.std.specs.Prelude.{◌≡◌, ℕ, ◌+◌, ◌≤◌, length, List, [], ◌∷◌, Bool, cond, eqb, Option, Some, None}
 use Rattle.std.proofs.Common.{zero, suc}
 use Rattle.std.specs.List.{slice_get}
+use Rattle.std.proofs.Math.ListN.{get_or}
+use Rattle.flux_trees.specs.Edits.{Supply}
 use Rattle.flux_atom.specs.declared.atom.Atom.{Atom}
 use Rattle.flux_trees.specs.Hedge.{Hedge, nil, elem, leaf, join, size}
 use Rattle.flux_nodes.specs.declared.cell.NodeId.{NodeId}
@@ -95,3 +97,7 @@ pub record IsUnder (old new : List Cell) (run : Run) (p : Option NodeId) (r : Ru
 
 abbrev pub with_kind : Kind → Cell → Cell
 with_kind k c = record c { kind = k }
+
+-- the numbers of a list, as a supply
+abbrev pub numbers_of : List NodeId → Supply
+numbers_of ns i = (get_or ns i (id 0)).0

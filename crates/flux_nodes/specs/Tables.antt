@@ -1,12 +1,12 @@
 -- What a table of linked nodes holds, and what its calls do to it.
-use Rattle.std.specs.Prelude.{◌≡◌, ◌⊎◌, ℕ, ◌+◌, length, List, [], ◌∷◌, ◌++◌, Option, Some, None, refl}
+use Rattle.std.specs.Prelude.{◌≡◌, ◌⊎◌, ℕ, ◌+◌, ◌-◌, zero, suc, length, drop, List, [], ◌∷◌, ◌++◌, Option, Some, None, refl}
 use Rattle.std.specs.Coded.{Coded, code_by, coded×, coded_ℕ, coded_list}
 use Rattle.std.specs.List.{sum_by}
 use Rattle.std.proofs.Math.ListN.{get_or, set}
-use Rattle.flux_trees.specs.Hedge.{Hedge, nil, elem, leaf, size, notes, content, others}
+use Rattle.flux_trees.specs.Hedge.{Hedge, Plain, nil, elem, leaf, size, notes, content, others}
 use Rattle.flux_trees.specs.HedgeCode.{numbered_code}
 use Rattle.flux_trees.specs.Frame.{Frame, Down, Before, After, Each, plug}
-use Rattle.flux_trees.specs.Edits.{Supply, preceded, last_or, parent_in, left_in, place_in}
+use Rattle.flux_trees.specs.Edits.{Supply, preceded, number, last_or, parent_in, left_in, place_in}
 use Rattle.flux_trees.specs.Edits.{Place as TreePlace}
 use Rattle.flux_nodes.specs.declared.cell.NodeId.{NodeId}
 use Rattle.flux_nodes.specs.declared.cell.Kind.{Kind}
@@ -154,3 +154,23 @@ after_free m run = record {
   unlinked = set m.unlinked run.first.0 nil;
   spare = notes (trees_at m run) ++ m.spare;
 }
+
+-- one thing n times
+abbrev pub copies : {X : Type 0} → ℕ → X → List X
+copies zero x = []
+copies (suc n) x = x ∷ copies n x
+
+-- trees with numbers from the supply, as an unlinked run; numbers that were never used are there
+-- where the free ones don't suffice
+abbrev pub with_trees : Meaning → Plain → Meaning
+with_trees m v = record {
+  document = m.document;
+  unlinked =
+      set (m.unlinked ++ copies (size v - length m.spare) nil) (supply m 0) (number v (supply m));
+  spare = drop (size v) m.spare;
+}
+
+abbrev pub after_add : Meaning → Plain → Meaning
+after_add m nil = m
+after_add m (elem n a c r) = with_trees m (elem n a c r)
+after_add m (leaf n x r) = with_trees m (leaf n x r)

@@ -3,7 +3,7 @@
 ghost use Rattle.std.specs.Prelude.{◌≡◌, ◌<◌, ◌≤◌, ◌+◌, ◌^◌, length, Some, None};
 ghost use Rattle.flux_trees.specs.Edits.{beyond, number};
 ghost use Rattle.flux_forest.specs.Flat.{hedge_of};
-ghost use Rattle.flux_nodes.specs.Laid.{id};
+ghost use Rattle.flux_nodes.specs.Laid.{numbers_of, id};
 ghost use Rattle.flux_nodes.specs.Kept.{IsWithin};
 ghost use Rattle.flux_nodes.specs.Built.{
   HasTrees,
@@ -12,7 +12,6 @@ ghost use Rattle.flux_nodes.specs.Built.{
   HasNode,
   CanBuild,
   IsBuilt,
-  numbers_of,
   kind_of,
 };
 

@@ -8,6 +8,7 @@ mod links;
 mod parents;
 mod run;
 mod table;
+mod taking;
 
 pub use cell::{Cell, Kind, NodeId};
 pub use run::{Place, Run};
