@@ -15,3 +15,4 @@ pub mod EncloseLaws
 pub mod BuildLaws
 pub mod BuildingLaws
 pub mod TakingLaws
+pub mod AddLaws

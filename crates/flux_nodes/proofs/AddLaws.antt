@@ -1,0 +1,185 @@
+-- Trees that were built in a table, as an unlinked run.
+use Rattle.std.proofs.Common.{◌≡◌, ◌≢◌, ◌⊎◌, inl, inr, ℕ, ◌+◌, ◌-◌, ◌<◌, ◌≤◌, zero, suc, List, [], ◌∷◌, ◌++◌, length, take, drop, Option, Some, None, refl, ap, ap₂, ◌∙◌, sym, subst, arith, length-append}
+use Rattle.std.specs.List.{slice_get, sum_by}
+use Rattle.std.proofs.Math.ListN.{set, get_or}
+use Rattle.std.proofs.lemmas.List.{get_or-set_other, get_or-set_same, length-set, length-drop}
+use Rattle.std.proofs.lemmas.List.Sums.{sum_by-set, sum_by-cons, sum_by-append}
+use Rattle.flux_trees.specs.Hedge.{Hedge, Plain, nil, elem, leaf, size}
+use Rattle.flux_trees.specs.Edits.{Supply, preceded, beyond, number}
+use Rattle.flux_nodes.specs.declared.cell.NodeId.{NodeId}
+use Rattle.flux_nodes.specs.declared.cell.Cell.{Cell}
+use Rattle.flux_nodes.specs.Tables.{Meaning, supply, made_in, copies, with_trees, after_add}
+use Rattle.flux_nodes.specs.Decoded.{meaning_of}
+use Rattle.flux_nodes.specs.Laid.{id, numbers_of, first_id, IsLaid, times, one_if}
+use Rattle.flux_nodes.specs.Seats.{IsDoc}
+use Rattle.flux_nodes.specs.Kept.{IsTable, HoldsRun, IsSpare, IsHeld, AreTaken, times_in, free_cell}
+use Rattle.flux_nodes.specs.Built.{IsBuilt}
+use Rattle.flux_nodes.proofs.LaidLaws.{one_if-same, one_if-other, kept, first_within}
+use Rattle.flux_nodes.proofs.TableLaws.{laid-within, get-or-sum, spare-kept, spare-within, same_or_not}
+use Rattle.flux_nodes.proofs.MoveLaws.{below_or_not, none_past}
+use Rattle.flux_nodes.proofs.SeenLaws.{seen, holds, some-term}
+use Rattle.flux_nodes.proofs.TableCalls.{table_of}
+use Rattle.flux_nodes.proofs.NumberLaws.{number-same, same_at, hits, hits-same, times-number, first-some, size-number}
+use Rattle.flux_nodes.proofs.SpareLaws.{spare-drop}
+use Rattle.flux_nodes.proofs.TakingLaws.{slice_get-left, length-copies}
+
+-- how often a number is among the first of the supply
+
+take-nothing : (j n : ℕ) → times_in j (take n []) ≡ 0
+take-nothing j zero = refl
+take-nothing j (suc n) = refl
+
+hits-listed : (j : ℕ) (ms : List ℕ) (s : Supply) (n : ℕ) → hits j (preceded ms s) n ≡ times_in j (take n ms) + hits j s (n - length ms)
+hits-listed j [] s n =
+    let all : n - 0 ≡ n = omega arith in
+    hits-same j (preceded [] s) s n (λ k l. refl) ∙ ap (hits j s) (sym all) ∙ (omega (arith, take-nothing j n))
+hits-listed j (m ∷ ms) s zero =
+    let none : 0 - suc (length ms) ≡ 0 = omega arith in
+    ap (hits j s) (sym none) ∙ omega arith
+hits-listed j (m ∷ ms) s (suc n) =
+    let less : suc n - suc (length ms) ≡ n - length ms = omega arith in
+    let rest : hits j (beyond 1 (preceded (m ∷ ms) s)) n ≡ hits j (preceded ms s) n = hits-same j (beyond 1 (preceded (m ∷ ms) s)) (preceded ms s) n (λ k l. same_at (preceded (m ∷ ms) s) (1 + k) (suc k) (omega arith)) in
+    omega (arith, rest, hits-listed j ms s n, ap (hits j s) less)
+
+times_in-cut : (j n : ℕ) (ms : List ℕ) → times_in j (take n ms) + times_in j (drop n ms) ≡ times_in j ms
+times_in-cut j zero ms = omega arith
+times_in-cut j (suc n) [] = omega arith
+times_in-cut j (suc n) (m ∷ ms) = omega (arith, times_in-cut j n ms)
+
+abbrev from : ℕ → Supply
+from b i = b + i
+
+from-next : (j b n : ℕ) → hits j (beyond 1 (from b)) n ≡ hits j (from (suc b)) n
+from-next j b n = hits-same j (beyond 1 (from b)) (from (suc b)) n (λ k l. omega arith)
+
+hits-low : (j b n : ℕ) → j < b → hits j (from b) n ≡ 0
+hits-low j b zero l = refl
+hits-low j b (suc n) l =
+    let other : one_if j (b + 0) ≡ 0 = one_if-other j (b + 0) (λ e. absurd (omega arith)) in
+    omega (arith, other, from-next j b n, hits-low j (suc b) n (omega arith))
+
+hits-in : (j b n : ℕ) → b ≤ j → j < b + n → hits j (from b) n ≡ 1
+hits-in j b zero g l = absurd (omega arith)
+hits-in j b (suc n) g l = elim (same_or_not j b) [
+  | inl e ↦ (let here : b + 0 ≡ j = omega arith in
+      let one : one_if j (b + 0) ≡ 1 = ap (one_if j) here ∙ one_if-same j in
+      omega (arith, one, from-next j b n, hits-low j (suc b) n (omega arith)))
+  | inr d ↦ (let further : suc b ≤ j = go d in
+      let other : one_if j (b + 0) ≡ 0 = one_if-other j (b + 0) (λ e. absurd (omega arith)) in
+      omega (arith, other, from-next j b n, hits-in j (suc b) n further (omega arith)))
+]
+  where
+    go : j ≢ b → suc b ≤ j
+    go d = elim (below_or_not b j) [ inl h ↦ omega arith | inr h ↦ absurd (d (omega arith)) ]
+
+-- the trees of a meaning, once they are numbered
+abbrev pub numbered : Meaning → Plain → Hedge ℕ
+numbered m v = number v (supply m)
+
+times-numbered : (m : Meaning) (v : Plain) (k : ℕ) → times k (numbered m v) ≡ times_in k (take (size v) m.spare) + hits k (from (length m.unlinked)) (size v - length m.spare)
+times-numbered m v k =
+    times-number k v (supply m) ∙ hits-listed k m.spare (λ i. length m.unlinked + i) (size v)
+
+trees-free : (m : Meaning) (v : Plain) (k : ℕ) → k < length m.unlinked → times k (numbered m v) + times_in k (drop (size v) m.spare) ≡ times_in k m.spare
+trees-free m v k l =
+    omega (arith, times-numbered m v k, hits-low k (length m.unlinked) (size v - length m.spare) l, times_in-cut k (size v) m.spare)
+
+trees-new : (m : Meaning) (v : Plain) (k : ℕ) → length m.unlinked ≤ k → k < length m.unlinked + (size v - length m.spare) → times_in k m.spare ≡ 0 → times k (numbered m v) ≡ 1
+trees-new m v k g l none =
+    omega (arith, times-numbered m v k, hits-in k (length m.unlinked) (size v - length m.spare) g l, times_in-cut k (size v) m.spare)
+
+get_or-copies : (n i : ℕ) → get_or (copies {X = Hedge ℕ} n nil) i nil ≡ nil
+get_or-copies zero i = refl
+get_or-copies (suc n) zero = refl
+get_or-copies (suc n) (suc i) = get_or-copies n i
+
+padded : (us : List (Hedge ℕ)) (n i : ℕ) → get_or (us ++ copies n nil) i nil ≡ get_or us i nil
+padded [] n i = get_or-copies n i
+padded (u ∷ us) n zero = refl
+padded (u ∷ us) n (suc i) = padded us n i
+
+sum-copies : (f : Hedge ℕ → ℕ) → f nil ≡ 0 → (n : ℕ) → sum_by f (copies n nil) ≡ 0
+sum-copies f z zero = refl
+sum-copies f z (suc n) = omega (arith, z, sum_by-cons f nil (copies n nil), sum-copies f z n)
+
+sum-padded : (f : Hedge ℕ → ℕ) → f nil ≡ 0 → (us : List (Hedge ℕ)) (n : ℕ) → sum_by f (us ++ copies n nil) ≡ sum_by f us
+sum-padded f z us n =
+    omega (arith, sum_by-append f us (copies n nil), sum-copies f z n)
+
+-- a number past the last cell is nowhere
+sum-past : (cs : List Cell) (t e f : Option NodeId) (m : Meaning) (k : ℕ) → IsTable cs t e f m → length cs ≤ k → sum_by (times k) m.unlinked ≡ 0
+sum-past cs t e f m k i past = go (sum_by (times k) m.unlinked) refl
+  where
+    go : (n : ℕ) → sum_by (times k) m.unlinked ≡ n → sum_by (times k) m.unlinked ≡ 0
+    go zero s = s
+    go (suc n) s =
+        let found : (j : ℕ) × (0 < times k (get_or m.unlinked j nil)) = some-term (times k) refl m.unlinked (omega arith) in
+        let here : k < length cs = laid-within cs None None (get_or m.unlinked found.0 nil) None k (i.runs found.0).laid found.1 in
+        absurd (omega arith)
+
+spare-past : (cs : List Cell) (ms : List ℕ) (k : ℕ) → IsSpare cs ms → length cs ≤ k → times_in k ms ≡ 0
+spare-past cs ms k s past = go (times_in k ms) refl
+  where
+    go : (n : ℕ) → times_in k ms ≡ n → times_in k ms ≡ 0
+    go zero e = e
+    go (suc n) e = let here : k < length cs = spare-within cs ms k s (omega arith) in absurd (omega arith)
+
+-- the numbers that were taken are those of the supply
+pub number-taken : (cs mid : List Cell) (t e f g : Option NodeId) (m : Meaning) (numbers : List NodeId) (v : Plain) → IsTable cs t e f m → AreTaken cs mid m.spare g numbers (size v) → number v (numbers_of numbers) ≡ numbered m v
+number-taken cs mid t e f g m numbers v i a =
+    number-same v (numbers_of numbers) (supply m) (λ k l. a.numbers_are k l ∙ ap (λ n. preceded m.spare (λ j. n + j) k) (sym i.runs_length))
+
+pub added : (cs mid bs : List Cell) (t e f g last : Option NodeId) (m : Meaning) (numbers : List NodeId) (v : Plain) → IsTable cs t e f m → AreTaken cs mid m.spare g numbers (size v) → 0 < size v → length bs ≡ length mid → IsBuilt mid bs (number v (numbers_of numbers)) last → IsTable bs t e g (with_trees m v)
+added cs mid bs t e f g last m numbers v i a some len b =
+    let new : ℕ = size v - length m.spare in
+    let us : List (Hedge ℕ) = m.unlinked ++ copies (size v - length m.spare) nil in
+    let same : number v (numbers_of numbers) ≡ numbered m v = number-taken cs mid t e f g m numbers v i a in
+    let laid : IsLaid bs None None (numbered m v) None = subst (λ h. IsLaid bs None None h None) same b.laid in
+    let first : first_id (numbered m v) None ≡ Some (id (supply m 0)) = first-some v (supply m) some in
+    let here : 0 < times (supply m 0) (numbered m v) = first_within (numbered m v) (supply m 0) first in
+    let long : length (m.unlinked ++ copies (size v - length m.spare) nil) ≡ length bs = omega (arith, length-append m.unlinked (copies (size v - length m.spare) nil), length-copies {X = Hedge ℕ} (size v - length m.spare) nil, i.runs_length, len, ap length a.cells_are, length-append cs (copies (size v - length m.spare) (free_cell None)), length-copies (size v - length m.spare) (free_cell None)) in
+    let bs_long : length bs ≡ length cs + (size v - length m.spare) = omega (arith, len, ap length a.cells_are, length-append cs (copies (size v - length m.spare) (free_cell None)), length-copies (size v - length m.spare) (free_cell None)) in
+    let within : supply m 0 < length (m.unlinked ++ copies (size v - length m.spare) nil) = omega (arith, long, laid-within bs None None (numbered m v) None (supply m 0) laid here) in
+    let apart : (k : ℕ) → k < length cs → times k (numbered m v) ≡ 0 → slice_get bs k ≡ slice_get cs k = λ k l z. b.others k (ap (times k) same ∙ z) ∙ ap (λ xs. slice_get xs k) a.cells_are ∙ slice_get-left cs (copies (size v - length m.spare) (free_cell None)) k l in
+    let others : (k : ℕ) → k < length cs → times_in k m.spare ≡ 0 → slice_get bs k ≡ slice_get cs k = λ k l z. apart k l (omega (arith, z, trees-free m v k (omega (arith, l, i.runs_length)))) in
+    let empty : get_or m.unlinked (supply m 0) nil ≡ nil = elim (i.runs (supply m 0)).begins [
+      | inl n ↦ n
+      | inr s ↦ (let there : 0 < times (supply m 0) (get_or m.unlinked (supply m 0) nil) = first_within (get_or m.unlinked (supply m 0) nil) (supply m 0) s in
+          let lt : supply m 0 < length cs = laid-within cs None None (get_or m.unlinked (supply m 0) nil) None (supply m 0) (i.runs (supply m 0)).laid there in
+          absurd (omega (arith, there, here, i.once (supply m 0) lt, get-or-sum (times (supply m 0)) nil refl m.unlinked (supply m 0), trees-free m v (supply m 0) (omega (arith, lt, i.runs_length)))))
+    ] in
+    let at : get_or (m.unlinked ++ copies (size v - length m.spare) nil) (supply m 0) nil ≡ nil = padded m.unlinked (size v - length m.spare) (supply m 0) ∙ empty in
+    record {
+      doc = record {
+        laid = kept cs bs None None m.document None (λ k h. let l : k < length cs = laid-within cs None None m.document None k i.doc.laid h in others k l (omega (arith, h, i.once k l))) i.doc.laid;
+        first_is = i.doc.first_is;
+        last_is = i.doc.last_is;
+      };
+      runs_length = length-set (m.unlinked ++ copies (size v - length m.spare) nil) (supply m 0) (numbered m v) ∙ long;
+      runs = λ j. elim (same_or_not j (supply m 0)) [
+        | inl s ↦ subst (λ n. HoldsRun bs n (get_or (set (m.unlinked ++ copies (size v - length m.spare) nil) (supply m 0) (numbered m v)) n nil)) (sym s) (subst (λ h. HoldsRun bs (supply m 0) h) (sym (get_or-set_same (m.unlinked ++ copies (size v - length m.spare) nil) (supply m 0) (numbered m v) nil within)) (record { laid = laid; begins = inr first }))
+        | inr n ↦ subst (λ h. HoldsRun bs j h) (sym (get_or-set_other (m.unlinked ++ copies (size v - length m.spare) nil) (supply m 0) j (numbered m v) nil n ∙ padded m.unlinked (size v - length m.spare) j)) (record {
+          laid = kept cs bs None None (get_or m.unlinked j nil) None (λ k h. let l : k < length cs = laid-within cs None None (get_or m.unlinked j nil) None k (i.runs j).laid h in others k l (omega (arith, h, i.once k l, get-or-sum (times k) nil refl m.unlinked j))) (i.runs j).laid;
+          begins = (i.runs j).begins;
+        })
+      ];
+      spare = spare-kept cs bs (drop (size v) m.spare) (λ k h. let l : k < length cs = spare-within cs (drop (size v) m.spare) k (spare-drop cs (size v) m.spare i.spare) h in apart k l (omega (arith, h, i.once k l, trees-free m v k (omega (arith, l, i.runs_length))))) (spare-drop cs (size v) m.spare i.spare);
+      spare_is = a.free_is;
+      once = λ k l. elim (below_or_not k (length cs)) [
+        | inl h ↦ omega (arith, i.once k h, sum_by-set (times k) (m.unlinked ++ copies (size v - length m.spare) nil) (supply m 0) (numbered m v) nil within, ap (times k) at, sum-padded (times k) refl m.unlinked (size v - length m.spare), trees-free m v k (omega (arith, h, i.runs_length)))
+        | inr h ↦ omega (arith, none_past cs None None m.document None k i.doc.laid h, sum-past cs t e f m k i h, sum_by-set (times k) (m.unlinked ++ copies (size v - length m.spare) nil) (supply m 0) (numbered m v) nil within, ap (times k) at, sum-padded (times k) refl m.unlinked (size v - length m.spare), spare-past cs m.spare k i.spare h, times_in-cut k (size v) m.spare, trees-new m v k (omega (arith, h, i.runs_length)) (omega (arith, l, bs_long, i.runs_length)) (spare-past cs m.spare k i.spare h))
+      ];
+      all = omega (arith, i.all, bs_long, sum_by-set size (m.unlinked ++ copies (size v - length m.spare) nil) (supply m 0) (numbered m v) nil within, ap size at, sum-padded size refl m.unlinked (size v - length m.spare), size-number v (supply m), length-drop (size v) m.spare);
+    }
+
+pub add-some : (m : Meaning) (v : Plain) → 0 < size v → with_trees m v ≡ after_add m v
+add-some m nil l = absurd (omega arith)
+add-some m (elem n a c r) l = refl
+add-some m (leaf n x r) l = refl
+
+pub add-held : (cs bs : List Cell) (t e f g : Option NodeId) (made more : ℕ) (m : Meaning) (v : Plain) → IsHeld cs t e f made → meaning_of cs t f ≡ m → length bs ≡ length cs + (size v - length m.spare) → more ≡ made + size v → IsTable bs t e g (with_trees m v) → IsHeld bs t e g more
+add-held cs bs t e f g made more m v i held len sum j =
+    let old : IsTable cs t e f m = table_of i held in
+    let made_is : made ≡ made_in m = i.made_is ∙ ap made_in held in
+    let is : more ≡ made_in (with_trees m v) = omega (arith, made_is, old.all, j.all, len, sum, length-drop (size v) m.spare) in
+    record { table = holds bs t e g (with_trees m v) j; made_is = is ∙ ap made_in (sym (seen bs t e g (with_trees m v) j)) }
