@@ -1,6 +1,7 @@
 -- Trees that were built in a table, as an unlinked run.
-use Rattle.std.proofs.Common.{◌≡◌, ◌≢◌, ◌⊎◌, inl, inr, ℕ, ◌+◌, ◌-◌, ◌<◌, ◌≤◌, zero, suc, List, [], ◌∷◌, ◌++◌, length, take, drop, Option, Some, None, refl, ap, ap₂, ◌∙◌, sym, subst, arith, length-append}
+use Rattle.std.proofs.Common.{◌≡◌, ◌≢◌, ◌⊎◌, inl, inr, ℕ, ◌+◌, ◌-◌, ◌<◌, ◌≤◌, zero, suc, List, [], ◌∷◌, ◌++◌, Bool, false, length, take, drop, Option, Some, None, refl, ap, ap₂, ◌∙◌, sym, subst, arith, length-append}
 use Rattle.std.specs.List.{slice_get, sum_by}
+use Rattle.std.specs.Bool.{IsTrue}
 use Rattle.std.proofs.Math.ListN.{set, get_or}
 use Rattle.std.proofs.lemmas.List.{get_or-set_other, get_or-set_same, length-set, length-drop}
 use Rattle.std.proofs.lemmas.List.Sums.{sum_by-set, sum_by-cons, sum_by-append}
@@ -14,7 +15,21 @@ use Rattle.flux_nodes.specs.Laid.{id, numbers_of, first_id, IsLaid, times, one_i
 use Rattle.flux_nodes.specs.Seats.{IsDoc}
 use Rattle.flux_nodes.specs.Kept.{IsTable, HoldsRun, IsSpare, IsHeld, AreTaken, times_in, free_cell}
 use Rattle.flux_nodes.specs.Built.{IsBuilt}
-use Rattle.flux_nodes.proofs.LaidLaws.{one_if-same, one_if-other, kept, first_within}
+use Rattle.flux_trees.specs.Edits.{last_or}
+use Rattle.flux_forest.specs.declared.node.Node.{Node}
+use Rattle.flux_forest.specs.Flat.{hedge_of, IsFlat}
+use Rattle.flux_forest.proofs.FlatLaws.{length-flat}
+use Rattle.std.proofs.lemmas.Option.{slice_get_within}
+use Rattle.flux_nodes.specs.declared.run.Run.{Run}
+use Rattle.flux_nodes.specs.Tables.{AreEnds, IsRunOf, first_or, number_of}
+use Rattle.flux_nodes.specs.Laid.{last_id}
+use Rattle.flux_nodes.specs.Built.{CanBuild}
+use Rattle.flux_nodes.specs.Kept.{HasSpare}
+use Rattle.flux_nodes.specs.Decoded.{spare_from}
+use Rattle.flux_nodes.proofs.SeenLaws.{spare-seen}
+use Rattle.flux_nodes.proofs.SpareLaws.{has_spare}
+use Rattle.flux_nodes.proofs.FrameLaws.{number-ids, first-ids, last-ids}
+use Rattle.flux_nodes.proofs.LaidLaws.{last_some, one_if-same, one_if-other, kept, first_within}
 use Rattle.flux_nodes.proofs.TableLaws.{laid-within, get-or-sum, spare-kept, spare-within, same_or_not}
 use Rattle.flux_nodes.proofs.MoveLaws.{below_or_not, none_past}
 use Rattle.flux_nodes.proofs.SeenLaws.{seen, holds, some-term}
@@ -71,6 +86,12 @@ hits-in j b (suc n) g l = elim (same_or_not j b) [
   where
     go : j ≢ b → suc b ≤ j
     go d = elim (below_or_not b j) [ inl h ↦ omega arith | inr h ↦ absurd (d (omega arith)) ]
+
+hits-high : (j b n : ℕ) → b + n ≤ j → hits j (from b) n ≡ 0
+hits-high j b zero l = refl
+hits-high j b (suc n) l =
+    let other : one_if j (b + 0) ≡ 0 = one_if-other j (b + 0) (λ e. absurd (omega arith)) in
+    omega (arith, other, from-next j b n, hits-high j (suc b) n (omega arith))
 
 -- the trees of a meaning, once they are numbered
 abbrev pub numbered : Meaning → Plain → Hedge ℕ
@@ -183,3 +204,122 @@ add-held cs bs t e f g made more m v i held len sum j =
     let made_is : made ≡ made_in m = i.made_is ∙ ap made_in held in
     let is : more ≡ made_in (with_trees m v) = omega (arith, made_is, old.all, j.all, len, sum, length-drop (size v) m.spare) in
     record { table = holds bs t e g (with_trees m v) j; made_is = is ∙ ap made_in (sym (seen bs t e g (with_trees m v) j)) }
+
+numbered-once : (cs : List Cell) (t e f : Option NodeId) (m : Meaning) (v : Plain) (k : ℕ) → IsTable cs t e f m → times k (numbered m v) ≤ 1
+numbered-once cs t e f m v k i = elim (below_or_not k (length cs)) [
+  | inl h ↦ omega (arith, i.once k h, trees-free m v k (omega (arith, h, i.runs_length)))
+  | inr h ↦ elim (below_or_not k (length m.unlinked + (size v - length m.spare))) [
+    | inl l ↦ omega (arith, trees-new m v k (omega (arith, h, i.runs_length)) l (spare-past cs m.spare k i.spare h))
+    | inr g ↦ omega (arith, times-numbered m v k, hits-high k (length m.unlinked) (size v - length m.spare) g, times_in-cut k (size v) m.spare, spare-past cs m.spare k i.spare h)
+  ]
+]
+
+preceded-within : (cs : List Cell) (ms : List ℕ) (b k n all : ℕ) → IsSpare cs ms → length cs ≤ all → b + (n - length ms) ≤ all → k < n → preceded ms (from b) k < all
+preceded-within cs [] b k n all s c l h = omega arith
+preceded-within cs (m ∷ ms) b zero n all s c l h = omega (arith, slice_get_within cs m _ s.0)
+preceded-within cs (m ∷ ms) b (suc k) n all s c l h =
+    preceded-within cs ms b k (n - 1) all s.1 c (omega arith) (omega arith)
+
+pub can-build : (cs mid : List Cell) (t e f g : Option NodeId) (made : ℕ) (m : Meaning) (numbers : List NodeId) (nodes : List Node) (v : Plain) → IsHeld cs t e f made → meaning_of cs t f ≡ m → IsFlat nodes → hedge_of nodes ≡ v → AreTaken cs mid m.spare g numbers (size v) → CanBuild mid nodes numbers
+can-build cs mid t e f g made m numbers nodes v held seen_as flat is a =
+    let i : IsTable cs t e f m = table_of held seen_as in
+    let count : length nodes ≡ size v = sym (ap length flat) ∙ length-flat (hedge_of nodes) ∙ ap size is in
+    let long : length mid ≡ length cs + (size v - length m.spare) = omega (arith, ap length a.cells_are, length-append cs (copies (size v - length m.spare) (free_cell None)), length-copies (size v - length m.spare) (free_cell None)) in
+    record {
+      flat = flat;
+      length_is = a.length_is ∙ sym count;
+      fits = omega (arith, a.length_is, long, i.all);
+      within = λ k l. subst (λ n. n < length mid) (sym (a.numbers_are k (omega (arith, l, a.length_is)))) (preceded-within cs m.spare (length cs) k (size v) (length mid) i.spare (omega (arith, long)) (omega (arith, long)) (omega (arith, l, a.length_is)));
+      once = λ k. subst (λ h. times k h ≤ 1) (sym (ap (λ h. number h (numbers_of numbers)) is ∙ number-taken cs mid t e f g m numbers v i a)) (numbered-once cs t e f m v k i);
+    }
+
+pub built-of : {mid bs : List Cell} {last : Option NodeId} (numbers : List NodeId) (nodes : List Node) (v : Plain) → hedge_of nodes ≡ v → IsBuilt mid bs (number (hedge_of nodes) (numbers_of numbers)) last → IsBuilt mid bs (number v (numbers_of numbers)) last
+built-of {mid} {bs} {last} numbers nodes v e b =
+    subst (λ h. IsBuilt mid bs (number h (numbers_of numbers)) last) e b
+
+last-there : (h : Hedge ℕ) → 0 < size h → (l : NodeId) × (last_id h None ≡ Some l)
+last-there nil s = absurd (omega arith)
+last-there (elem m a c r) s = let l = last_some r m in (id l.0, l.1)
+last-there (leaf m x r) s = let l = last_some r m in (id l.0, l.1)
+
+-- the run that is told
+pub run-told : (cs mid bs : List Cell) (t e f g : Option NodeId) (m : Meaning) (numbers : List NodeId) (v : Plain) (first : NodeId) (last : Option NodeId) (run : Option Run) → IsTable cs t e f m → AreTaken cs mid m.spare g numbers (size v) → 0 < size v → IsBuilt mid bs (number v (numbers_of numbers)) last → first ≡ id (numbers_of numbers 0) → ((l : NodeId) → last ≡ Some l → run ≡ Some (record { first = first; last = l })) → IsRunOf run (number v (supply m))
+run-told cs mid bs t e f g m numbers v first last run i a some b fe told =
+    let same : number v (numbers_of numbers) ≡ numbered m v = number-taken cs mid t e f g m numbers v i a in
+    let l = last-there (numbered m v) (omega (arith, some, size-number v (supply m))) in
+    let last_is : last ≡ Some l.0 = b.last_is ∙ ap (λ h. last_id h None) same ∙ l.1 in
+    let first_is : first_id (numbered m v) None ≡ Some first = ap (λ h. first_id h None) (sym same) ∙ first-some v (numbers_of numbers) some ∙ ap Some (sym fe) in
+    let ends : AreEnds (record { first = first; last = l.0 }) (numbered m v) = record {
+      first_is = sym (number-ids (first_or None (numbered m v))) ∙ ap number_of (sym (first-ids (numbered m v) None) ∙ first_is);
+      last_is = sym (number-ids (last_or None (numbered m v))) ∙ ap number_of (sym (last-ids (numbered m v) None) ∙ l.1);
+    } in
+    subst (λ r. IsRunOf r (number v (supply m))) (sym (told l.0 last_is)) ends
+
+pub size-some : (v : Plain) → (v ≡ nil → ⊥) → 0 < size v
+size-some nil n = absurd (n refl)
+size-some (elem _ a c r) n = omega arith
+size-some (leaf _ x r) n = omega arith
+
+pub nothing-added : (m n : Meaning) (v : Plain) → v ≡ nil → n ≡ m → (n ≡ after_add m v) × IsRunOf None (number v (supply m))
+nothing-added m n v e s =
+    (s ∙ ap (after_add m) (sym e), ap (λ h. number h (supply m)) e)
+
+-- what the nodes that were copied show
+pub record AreCopied (nodes : List Node) (v : Plain) (count : ℕ) : Type 0 where
+  pub flat : IsFlat nodes
+  pub is : hedge_of nodes ≡ v
+  pub count_is : count ≡ size v
+
+pub copied : (old new from : List Node) (v : Plain) (len count : ℕ) → old ≡ [] → new ≡ old ++ from → IsFlat from → hedge_of from ≡ v → count ≡ len → len ≡ length new → AreCopied new v count
+copied old new from v len count none e flat is c l =
+    let same : new ≡ from = e ∙ ap (λ ns. ns ++ from) none in
+    subst (λ ns. AreCopied ns v count) (sym same) (record {
+      flat = flat;
+      is = is;
+      count_is = c ∙ l ∙ ap length same ∙ sym (ap length flat) ∙ length-flat (hedge_of from) ∙ ap size is;
+    })
+
+pub taken-now : (cs mid : List Cell) (t e f g : Option NodeId) (made count : ℕ) (m : Meaning) (numbers : List NodeId) (v : Plain) → IsHeld cs t e f made → meaning_of cs t f ≡ m → count ≡ size v → ((h : HasSpare cs f) → AreTaken cs mid h.spare g numbers count) → AreTaken cs mid m.spare g numbers (size v)
+unfolding has_spare
+taken-now cs mid t e f g made count m numbers v i held c taken =
+    subst (λ n. AreTaken cs mid m.spare g numbers n) c (taken (has_spare cs cs t e f made m refl i held))
+
+pub taken-long : (cs mid : List Cell) (ms : List ℕ) (g : Option NodeId) (numbers : List NodeId) (k : ℕ) → AreTaken cs mid ms g numbers k → length mid ≡ length cs + (k - length ms)
+taken-long cs mid ms g numbers k a =
+    omega (arith, ap length a.cells_are, length-append cs (copies (k - length ms) (free_cell None)), length-copies (k - length ms) (free_cell None))
+
+-- as many cells are free as a free list has
+pub spare-counted : (cs : List Cell) (t e f : Option NodeId) (made len : ℕ) (m : Meaning) → IsHeld cs t e f made → meaning_of cs t f ≡ m → len ≡ length cs → (h : HasSpare cs f) → len - made ≡ length h.spare
+spare-counted cs t e f made len m i v l h =
+    let table : IsTable cs t e f m = table_of i v in
+    let made_is : made ≡ made_in m = i.made_is ∙ ap made_in v in
+    let same : h.spare ≡ m.spare = sym (spare-seen cs h.spare (length cs + length h.spare) h.chain (omega arith)) ∙ ap (spare_from cs (length cs + length h.spare)) (sym h.head_is ∙ table.spare_is) ∙ spare-seen cs m.spare (length cs + length h.spare) table.spare (omega (arith, table.all)) in
+    omega (arith, made_is, table.all, l, ap length same)
+
+-- what is known before the trees are built
+pub record Adding (cs mid : List Cell) (t e f g : Option NodeId) (m : Meaning) (numbers : List NodeId) (nodes : List Node) (v : Plain) (count : ℕ) : Type 0 where
+  pub table : IsTable cs t e f m
+  pub copies_are : AreCopied nodes v count
+  pub taken : AreTaken cs mid m.spare g numbers (size v)
+  pub some : 0 < size v
+  pub can : CanBuild mid nodes numbers
+
+pub adding : (cs mid : List Cell) (t e f g : Option NodeId) (made : ℕ) (m : Meaning) (numbers : List NodeId) (old nodes from : List Node) (v : Plain) (count : ℕ) (empty : Bool) → IsHeld cs t e f made → meaning_of cs t f ≡ m → old ≡ [] → nodes ≡ old ++ from → IsFlat from → hedge_of from ≡ v → count ≡ length nodes → empty ≡ false → (v ≡ nil → IsTrue empty) → ((h : HasSpare cs f) → AreTaken cs mid h.spare g numbers count) → Adding cs mid t e f g m numbers nodes v count
+adding cs mid t e f g made m numbers old nodes from v count empty i held none all flat is c isnt test taken =
+    let c_are : AreCopied nodes v count = copied old nodes from v count count none all flat is refl c in
+    let some : 0 < size v = size-some v (λ n. let no : IsTrue false = subst IsTrue isnt (test n) in cc) in
+    let a : AreTaken cs mid m.spare g numbers (size v) = taken-now cs mid t e f g made count m numbers v i held c_are.count_is taken in
+    record {
+      table = table_of i held;
+      copies_are = c_are;
+      taken = a;
+      some = some;
+      can = can-build cs mid t e f g made m numbers nodes v i held c_are.flat c_are.is a;
+    }
+
+pub added-now : {cs mid : List Cell} {t e f g : Option NodeId} {m : Meaning} {numbers : List NodeId} {nodes : List Node} {v : Plain} {count : ℕ} (bs slice : List Cell) (list : List NodeId) (last : Option NodeId) → Adding cs mid t e f g m numbers nodes v count → slice ≡ mid → list ≡ numbers → length bs ≡ length slice → IsBuilt slice bs (number (hedge_of nodes) (numbers_of list)) last → IsTable bs t e g (with_trees m v) × (length bs ≡ length cs + (size v - length m.spare)) × IsBuilt mid bs (number v (numbers_of numbers)) last
+added-now {cs} {mid} {t} {e} {f} {g} {m} {numbers} {nodes} {v} {count} bs slice list last a s n len b =
+    let b1 : IsBuilt mid bs (number (hedge_of nodes) (numbers_of numbers)) last = subst (λ ns. IsBuilt mid bs (number (hedge_of nodes) (numbers_of ns)) last) n (subst (λ xs. IsBuilt xs bs (number (hedge_of nodes) (numbers_of list)) last) s b) in
+    let b2 : IsBuilt mid bs (number v (numbers_of numbers)) last = built-of numbers nodes v a.copies_are.is b1 in
+    let len2 : length bs ≡ length mid = len ∙ ap length s in
+    (added cs mid bs t e f g last m numbers v a.table a.taken a.some len2 b2, len2 ∙ taken-long cs mid m.spare g numbers (size v) a.taken, b2)

@@ -1,8 +1,9 @@
 // A document as a table of linked nodes.
-ghost use Rattle.std.specs.Prelude.{◌≡◌, ◌<◌, ◌^◌, ℕ};
+ghost use Rattle.std.specs.Prelude.{◌≡◌, ◌<◌, ◌^◌, ℕ, IfOk, OnErr};
 ghost use Rattle.std.proofs.Math.ListN.{get_or};
 ghost use Rattle.flux_trees.specs.Hedge.{nil};
-ghost use Rattle.flux_trees.specs.Edits.{place_in};
+ghost use Rattle.flux_trees.specs.Edits.{place_in, number};
+ghost use Rattle.flux_forest.specs.View.{forest_of};
 ghost use Rattle.flux_nodes.specs.Tables.{
   RunAt,
   PlaceAt,
@@ -20,14 +21,18 @@ ghost use Rattle.flux_nodes.specs.Tables.{
   after_link,
   after_label,
   after_free,
+  after_add,
 };
 
+use crate::build::build;
 use crate::cell::{Cell, NodeId, put_label};
 use crate::freeing::{free_run, nth_free};
 use crate::links::{link, unlink};
-use crate::run::{Place, Run};
+use crate::run::{Place, Run, run_to};
+use crate::taking::take_numbers;
 use flux_atom::Name;
-use std::alloc::Global;
+use flux_forest::{View, push_copies};
+use std::alloc::{AllocError, Global};
 use std::marker::Model;
 
 /// The nodes of a document, and of runs of trees that are in no document, each in a cell of its
@@ -157,6 +162,27 @@ impl Table {
             self.new ≡ after_label self.old node name at.frames at.inside }
     {
         put_label(self.cells.as_mut_slice(), node, name);
+    }
+
+    /// Makes nodes of the trees, with numbers in document order: an unlinked run, or none where
+    /// there are no trees. On want of memory the table is as it was.
+    pub fn add_tree_cells(&mut self, view: View<'_>) -> Result<Option<Run>, AllocError>
+        ensures ok { IfOk result (λ _. self.new ≡ after_add self.old (forest_of view.entry)) }
+        ensures run { IfOk result (λ run.
+            IsRunOf run (number (forest_of view.entry) (supply self.old))) }
+        ensures err { OnErr result (self.new ≡ self.old) }
+    {
+        if view.is_empty() {
+            return Ok(None);
+        }
+        let mut nodes = Vec::new(*self.cells.allocator());
+        push_copies(&mut nodes, view.nodes())?;
+        let count = nodes.len();
+        let spare = self.cells.len() - self.made as usize;
+        let numbers = take_numbers(&mut self.cells, &mut self.free, spare, count)?;
+        let last = build(self.cells.as_mut_slice(), nodes, numbers.as_slice());
+        self.made += count as u64;
+        Ok(run_to(numbers[0], last))
     }
 
     /// Frees the nodes of an unlinked run. Their numbers are the next to be used, in document
