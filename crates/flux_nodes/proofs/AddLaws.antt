@@ -1,4 +1,5 @@
 -- Trees that were built in a table, as an unlinked run.
+use Rattle.flux_nodes.specs.Tables.{one_if, times, times_in}
 use Rattle.std.proofs.Common.{◌≡◌, ◌≢◌, ◌⊎◌, inl, inr, ℕ, ◌+◌, ◌-◌, ◌<◌, ◌≤◌, zero, suc, List, [], ◌∷◌, ◌++◌, Bool, false, length, take, drop, Option, Some, None, refl, ap, ap₂, ◌∙◌, sym, subst, arith, length-append}
 use Rattle.std.specs.List.{slice_get, sum_by}
 use Rattle.std.specs.Bool.{IsTrue}
@@ -11,9 +12,9 @@ use Rattle.flux_nodes.specs.declared.cell.NodeId.{NodeId}
 use Rattle.flux_nodes.specs.declared.cell.Cell.{Cell}
 use Rattle.flux_nodes.specs.Tables.{Meaning, supply, made_in, copies, with_trees, after_add}
 use Rattle.flux_nodes.specs.Decoded.{meaning_of}
-use Rattle.flux_nodes.specs.Laid.{id, numbers_of, first_id, IsLaid, times, one_if}
+use Rattle.flux_nodes.specs.Laid.{id, numbers_of, first_id, IsLaid}
 use Rattle.flux_nodes.specs.Seats.{IsDoc}
-use Rattle.flux_nodes.specs.Kept.{IsTable, HoldsRun, IsSpare, IsHeld, AreTaken, times_in, free_cell}
+use Rattle.flux_nodes.specs.Kept.{IsTable, HoldsRun, IsSpare, IsHeld, AreTaken, free_cell}
 use Rattle.flux_nodes.specs.Built.{IsBuilt}
 use Rattle.flux_trees.specs.Edits.{last_or}
 use Rattle.flux_forest.specs.declared.node.Node.{Node}
@@ -128,7 +129,7 @@ sum-padded f z us n =
     omega (arith, sum_by-append f us (copies n nil), sum-copies f z n)
 
 -- a number past the last cell is nowhere
-sum-past : (cs : List Cell) (t e f : Option NodeId) (m : Meaning) (k : ℕ) → IsTable cs t e f m → length cs ≤ k → sum_by (times k) m.unlinked ≡ 0
+pub sum-past : (cs : List Cell) (t e f : Option NodeId) (m : Meaning) (k : ℕ) → IsTable cs t e f m → length cs ≤ k → sum_by (times k) m.unlinked ≡ 0
 sum-past cs t e f m k i past = go (sum_by (times k) m.unlinked) refl
   where
     go : (n : ℕ) → sum_by (times k) m.unlinked ≡ n → sum_by (times k) m.unlinked ≡ 0
@@ -138,7 +139,7 @@ sum-past cs t e f m k i past = go (sum_by (times k) m.unlinked) refl
         let here : k < length cs = laid-within cs None None (get_or m.unlinked found.0 nil) None k (i.runs found.0).laid found.1 in
         absurd (omega arith)
 
-spare-past : (cs : List Cell) (ms : List ℕ) (k : ℕ) → IsSpare cs ms → length cs ≤ k → times_in k ms ≡ 0
+pub spare-past : (cs : List Cell) (ms : List ℕ) (k : ℕ) → IsSpare cs ms → length cs ≤ k → times_in k ms ≡ 0
 spare-past cs ms k s past = go (times_in k ms) refl
   where
     go : (n : ℕ) → times_in k ms ≡ n → times_in k ms ≡ 0

@@ -1,4 +1,5 @@
 -- A node put before the trees behind it.
+use Rattle.flux_nodes.specs.Tables.{one_if, times}
 use Rattle.std.proofs.Common.{◌≡◌, ◌≢◌, ℕ, ◌+◌, ◌<◌, ◌≤◌, zero, suc, List, [], ◌∷◌, length, Option, Some, None, refl, ap, ap₂, ◌∙◌, sym, subst, arith}
 use Rattle.std.specs.List.{slice_get}
 use Rattle.std.proofs.Math.ListN.{get_or}
@@ -13,7 +14,7 @@ use Rattle.flux_nodes.specs.declared.cell.NodeId.{NodeId}
 use Rattle.flux_nodes.specs.declared.cell.Kind.{Kind}
 use Rattle.flux_nodes.specs.declared.cell.Kind.TheVariants.{Elem, Leaf}
 use Rattle.flux_nodes.specs.declared.cell.Cell.{Cell}
-use Rattle.flux_nodes.specs.Laid.{numbers_of, id, first_id, last_id, elem_cell, leaf_cell, IsLaid, one_if, times, edit}
+use Rattle.flux_nodes.specs.Laid.{numbers_of, id, first_id, last_id, elem_cell, leaf_cell, IsLaid, edit}
 use Rattle.flux_nodes.specs.Seats.{behind, behind_top}
 use Rattle.flux_nodes.specs.Built.{kind_of, IsHeadNode, IsBuilt, HasTrees, IsEnclosed, HasNode}
 use Rattle.flux_nodes.proofs.LaidLaws.{one_if-same, kept, last_id-join}

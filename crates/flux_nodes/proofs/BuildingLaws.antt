@@ -1,4 +1,5 @@
 -- Nodes laid out from the last to the first.
+use Rattle.flux_nodes.specs.Tables.{one_if, times}
 use Rattle.std.proofs.Common.{◌≡◌, ◌≢◌, ℕ, ◌+◌, ◌-◌, ◌<◌, ◌≤◌, zero, suc, List, [], ◌∷◌, ◌++◌, length, take, drop, Option, Some, None, refl, ap, ap₂, ◌∙◌, sym, subst, arith, length-append}
 use Rattle.std.specs.List.{slice_get}
 use Rattle.std.specs.Option.{IsSome}
@@ -10,7 +11,7 @@ use Rattle.flux_forest.specs.Flat.{element_node, leaf_node, flat, hedge_of, IsFl
 use Rattle.flux_forest.proofs.FlatLaws.{flat-join, length-flat}
 use Rattle.flux_nodes.specs.declared.cell.NodeId.{NodeId}
 use Rattle.flux_nodes.specs.declared.cell.Cell.{Cell}
-use Rattle.flux_nodes.specs.Laid.{numbers_of, id, first_id, last_id, IsLaid, one_if, times}
+use Rattle.flux_nodes.specs.Laid.{numbers_of, id, first_id, last_id, IsLaid}
 use Rattle.flux_nodes.specs.Built.{IsHeadNode, IsBuilt, HasNode, CanBuild}
 use Rattle.flux_nodes.proofs.LaidLaws.{times-join}
 use Rattle.flux_nodes.proofs.NumberLaws.{number-opened, number-behind, number-same, same_at, times-number, hits, hits-add}

@@ -1,4 +1,5 @@
 -- What the calls on cells have at hand.
+use Rattle.flux_nodes.specs.Tables.{one_if, times}
 use Rattle.std.proofs.Common.{◌≡◌, ◌≢◌, ◌⊎◌, inl, inr, ℕ, ◌+◌, ◌<◌, ◌≤◌, zero, suc, List, [], ◌∷◌, length, Option, Some, None, refl, ap, ap₂, ◌∙◌, sym, subst, arith}
 use Rattle.std.specs.List.{slice_get, sum_by}
 use Rattle.std.proofs.Math.ListN.{set, get_or}
@@ -11,7 +12,7 @@ use Rattle.flux_nodes.specs.declared.cell.Kind.TheVariants.{Elem}
 use Rattle.std.proofs.lemmas.List.{set-get_or}
 use Rattle.flux_nodes.specs.declared.run.Run.{Run}
 use Rattle.flux_nodes.specs.declared.run.Place.{Place}
-use Rattle.flux_nodes.specs.Laid.{id, first_id, last_id, elem_cell, leaf_cell, IsLaid, one_if, times, edit, with_prev, with_next, with_kind, RunLaid, IsUnder}
+use Rattle.flux_nodes.specs.Laid.{id, first_id, last_id, elem_cell, leaf_cell, IsLaid, edit, with_prev, with_next, with_kind, RunLaid, IsUnder}
 use Rattle.flux_nodes.specs.Seats.{IsDoc, Seat, seated, Above, top, under, fill, parent_of, times_above, IsAbove, ahead, ahead_top, behind, behind_top}
 use Rattle.flux_nodes.specs.Tables.{Meaning, trees_at}
 use Rattle.flux_nodes.specs.Decoded.{meaning_of}

@@ -1,4 +1,5 @@
 -- Trees that are laid out, put into a parent.
+use Rattle.flux_nodes.specs.Tables.{one_if, times}
 use Rattle.std.proofs.Common.{◌≡◌, ◌≢◌, ℕ, ◌+◌, ◌<◌, ◌≤◌, List, [], ◌∷◌, length, Option, Some, None, refl, ap, ap₂, ◌∙◌, sym, subst, arith}
 use Rattle.std.specs.List.{slice_get}
 use Rattle.std.proofs.Math.ListN.{get_or}
@@ -7,7 +8,7 @@ use Rattle.flux_trees.specs.Hedge.{Hedge, nil, elem, leaf, join, size}
 use Rattle.flux_nodes.specs.declared.cell.NodeId.{NodeId}
 use Rattle.flux_nodes.specs.declared.cell.Cell.{Cell}
 use Rattle.flux_nodes.specs.declared.run.Run.{Run}
-use Rattle.flux_nodes.specs.Laid.{id, first_id, last_id, elem_cell, leaf_cell, IsLaid, one_if, times, edit, with_next, with_prev, RunLaid, IsUnder}
+use Rattle.flux_nodes.specs.Laid.{id, first_id, last_id, elem_cell, leaf_cell, IsLaid, edit, with_next, with_prev, RunLaid, IsUnder}
 use Rattle.flux_nodes.specs.Seats.{behind, behind_top}
 use Rattle.flux_nodes.specs.Kept.{IsWithin, free_cell}
 use Rattle.flux_nodes.specs.Built.{HasTrees, IsEnclosed, IsLastBefore}

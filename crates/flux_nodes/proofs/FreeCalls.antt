@@ -1,4 +1,5 @@
 -- A run freed, in a table.
+use Rattle.flux_nodes.specs.Tables.{times, times_in}
 use Rattle.std.proofs.Common.{◌≡◌, ◌≢◌, ◌⊎◌, inl, inr, ℕ, ◌+◌, ◌<◌, ◌≤◌, List, [], ◌∷◌, ◌++◌, length, true, Option, Some, None, refl, ap, ap₂, ◌∙◌, sym, subst, arith, length-append}
 use Rattle.std.specs.List.{slice_get, sum_by}
 use Rattle.std.proofs.Math.ListN.{set, get_or}
@@ -9,10 +10,10 @@ use Rattle.flux_trees.specs.Hedge.{Hedge, nil, elem, leaf, join, size, notes}
 use Rattle.flux_nodes.specs.declared.cell.NodeId.{NodeId}
 use Rattle.flux_nodes.specs.declared.cell.Cell.{Cell}
 use Rattle.flux_nodes.specs.declared.run.Run.{Run}
-use Rattle.flux_nodes.specs.Laid.{id, first_id, last_id, IsLaid, times, edit, with_next}
+use Rattle.flux_nodes.specs.Laid.{id, first_id, last_id, IsLaid, edit, with_next}
 use Rattle.flux_nodes.specs.Seats.{IsDoc}
 use Rattle.flux_nodes.specs.Tables.{Meaning, trees_at, after_free}
-use Rattle.flux_nodes.specs.Kept.{IsTable, HoldsRun, IsLoose, HasLoose, times_in, held, freed, going_on, IsFreed, IsWithin, spare_head, spliced, free_cell}
+use Rattle.flux_nodes.specs.Kept.{IsTable, HoldsRun, IsLoose, HasLoose, held, freed, going_on, IsFreed, IsWithin, spare_head, spliced, free_cell}
 use Rattle.flux_nodes.specs.Decoded.{meaning_of, is_kept}
 use Rattle.flux_nodes.proofs.LaidLaws.{kept, first_within, edit-same, edit-other}
 use Rattle.flux_nodes.proofs.TableLaws.{laid-within, get-or-sum, get-or-two, spare-kept, spare-within, same_or_not}

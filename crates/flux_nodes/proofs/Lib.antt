@@ -16,3 +16,4 @@ pub mod BuildLaws
 pub mod BuildingLaws
 pub mod TakingLaws
 pub mod AddLaws
+pub mod SoundLaws

@@ -1,3 +1,4 @@
+use Rattle.flux_nodes.specs.Tables.{one_if, times}
 use Rattle.std.proofs.Common.{◌≡◌, ◌≢◌, ◌⊎◌, inl, inr, ℕ, ◌+◌, ◌<◌, ◌≤◌, zero, suc, List, [], ◌∷◌, length, Option, Some, None, refl, ap, ap₂, ◌∙◌, sym, subst, arith}
 use Rattle.std.specs.List.{slice_get, sum_by}
 use Rattle.std.proofs.Math.ListN.{set, get_or}
@@ -6,7 +7,7 @@ use Rattle.flux_trees.specs.Hedge.{Hedge, nil, elem, leaf, join, size}
 use Rattle.flux_nodes.specs.declared.cell.NodeId.{NodeId}
 use Rattle.flux_nodes.specs.declared.cell.Cell.{Cell}
 use Rattle.flux_nodes.specs.declared.run.Run.{Run}
-use Rattle.flux_nodes.specs.Laid.{id, first_id, last_id, elem_cell, leaf_cell, IsLaid, one_if, times, edit, with_prev, with_next, with_first, with_last, RunLaid, IsUnder}
+use Rattle.flux_nodes.specs.Laid.{id, first_id, last_id, elem_cell, leaf_cell, IsLaid, edit, with_prev, with_next, with_first, with_last, RunLaid, IsUnder}
 use Rattle.flux_nodes.specs.Seats.{IsDoc, Seat, seated, Above, top, under, fill, parent_of, times_above, ahead, ahead_top, behind, behind_top}
 use Rattle.flux_nodes.specs.Tables.{Meaning, trees_at}
 use Rattle.flux_nodes.specs.Kept.{IsTable, HoldsRun, RunSeat, PlaceSeat, IsLoose, seat_unlink, seat_link}

@@ -1,3 +1,4 @@
+use Rattle.flux_nodes.specs.Tables.{one_if, times}
 use Rattle.std.proofs.Common.{◌≡◌, ◌≢◌, ℕ, ◌+◌, ◌<◌, ◌≤◌, suc, List, length, Option, Some, None, refl, ap, ap₂, ◌∙◌, sym, subst, arith}
 use Rattle.std.specs.List.{slice_get}
 use Rattle.std.proofs.lemmas.Option.{slice_get_within}
@@ -6,7 +7,7 @@ use Rattle.flux_trees.specs.Hedge.{Hedge, nil, elem, leaf, join, size}
 use Rattle.flux_trees.proofs.HedgeLaws.{join-nil, join_assoc, size-join}
 use Rattle.flux_nodes.specs.declared.cell.NodeId.{NodeId}
 use Rattle.flux_nodes.specs.declared.cell.Cell.{Cell}
-use Rattle.flux_nodes.specs.Laid.{id, first_id, last_id, elem_cell, leaf_cell, IsLaid, one_if, times, edit, with_parent, count, RunLaid, IsUnder}
+use Rattle.flux_nodes.specs.Laid.{id, first_id, last_id, elem_cell, leaf_cell, IsLaid, edit, with_parent, count, RunLaid, IsUnder}
 use Rattle.flux_nodes.specs.declared.run.Run.{Run}
 use Rattle.flux_nodes.proofs.LaidLaws.{one_if-same, edit-same, edit-other, edit-length, kept, kept-edit, first_id-join, last_id-join, times-join, laid-join, join-laid, last_within, number_or}
 

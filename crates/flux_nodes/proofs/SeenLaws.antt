@@ -1,4 +1,5 @@
 -- What a table shows is what its cells hold.
+use Rattle.flux_nodes.specs.Tables.{one_if, times, times_in}
 use Rattle.std.proofs.Common.{◌≡◌, ◌≢◌, ◌⊎◌, inl, inr, ℕ, ◌+◌, ◌<◌, ◌≤◌, zero, suc, List, [], ◌∷◌, length, Bool, true, false, ◌&&◌, cond, eqb, Option, Some, None, refl, ap, ap₂, ◌∙◌, sym, subst, arith}
 use Rattle.std.proofs.lemmas.Bool.Decides.{nat_tests}
 use Rattle.std.specs.List.{slice_get, sum_by}
@@ -8,11 +9,11 @@ use Rattle.std.proofs.lemmas.List.Sums.{sum_by-cons}
 use Rattle.flux_trees.specs.Hedge.{Hedge, nil, elem, leaf, join, size}
 use Rattle.flux_nodes.specs.declared.cell.NodeId.{NodeId}
 use Rattle.flux_nodes.specs.declared.cell.Cell.{Cell}
-use Rattle.flux_nodes.specs.Laid.{id, first_id, last_id, elem_cell, leaf_cell, IsLaid, one_if, times}
+use Rattle.flux_nodes.specs.Laid.{id, first_id, last_id, elem_cell, leaf_cell, IsLaid}
 use Rattle.flux_nodes.specs.Seats.{IsDoc}
 use Rattle.flux_nodes.specs.Tables.{Meaning}
 use Rattle.flux_nodes.specs.Decoded.{meaning_of, hedge_from, grow, runs_from, run_at, spare_from, next_in, is_none, is_id, is_kept, is_alone, begins}
-use Rattle.flux_nodes.specs.Kept.{IsTable, HoldsRun, IsSpare, spare_head, free_cell, times_in}
+use Rattle.flux_nodes.specs.Kept.{IsTable, HoldsRun, IsSpare, spare_head, free_cell}
 use Rattle.flux_nodes.proofs.LaidLaws.{one_if-same, one_if-is, first_within, number_or}
 use Rattle.flux_nodes.proofs.TableLaws.{get-or-sum}
 use Rattle.flux_nodes.proofs.MoveLaws.{apart}

@@ -1,4 +1,5 @@
 -- What the calls of a table have at hand.
+use Rattle.flux_nodes.specs.Tables.{times}
 use Rattle.std.proofs.Common.{◌≡◌, ◌⊎◌, inl, inr, ℕ, ◌+◌, ◌<◌, ◌≤◌, List, [], ◌∷◌, ◌++◌, length, take, drop, Option, Some, None, refl, ap, ap₂, ◌∙◌, sym, subst, arith}
 use Rattle.std.specs.List.{slice_get, sum_by}
 use Rattle.std.proofs.Math.ListN.{get_or}
@@ -15,7 +16,7 @@ use Rattle.flux_nodes.specs.declared.run.Run.{Run}
 use Rattle.flux_nodes.specs.declared.run.Place.{Place}
 use Rattle.flux_nodes.specs.Tables.{Meaning, made_in, number_of, tree_place, first_or, right_in, AreEnds, IsRunOf, RunAt, PlaceAt, ElementAt, NodeAt, IsHandedOut, IsCellOf, IsUnlinked, after_unlink, after_link, after_label}
 use Rattle.flux_nodes.specs.Decoded.{meaning_of}
-use Rattle.flux_nodes.specs.Laid.{id, first_id, last_id, elem_cell, leaf_cell, IsLaid, times, edit, with_kind}
+use Rattle.flux_nodes.specs.Laid.{id, first_id, last_id, elem_cell, leaf_cell, IsLaid, edit, with_kind}
 use Rattle.flux_nodes.specs.Seats.{IsDoc, Seat, seated, parent_of}
 use Rattle.flux_nodes.specs.Kept.{IsTable, IsHeld, HasRun, HasPlace, seat_unlink, seat_link}
 use Rattle.flux_nodes.proofs.LaidLaws.{edit-length}

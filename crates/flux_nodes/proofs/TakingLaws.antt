@@ -1,4 +1,5 @@
 -- Numbers taken from the supply.
+use Rattle.flux_nodes.specs.Tables.{times_in}
 use Rattle.std.proofs.Common.{◌≡◌, ◌⊎◌, inl, inr, ℕ, ◌+◌, ◌-◌, ◌<◌, ◌≤◌, zero, suc, List, [], ◌∷◌, ◌++◌, length, drop, Option, Some, None, refl, ap, ap₂, ◌∙◌, sym, subst, arith, length-append, append_assoc}
 use Rattle.std.specs.List.{slice_get}
 use Rattle.std.proofs.Common.{Result, Ok, Err}
@@ -11,7 +12,7 @@ use Rattle.flux_nodes.specs.declared.cell.NodeId.{NodeId}
 use Rattle.flux_nodes.specs.declared.cell.Cell.{Cell}
 use Rattle.flux_nodes.specs.Tables.{copies}
 use Rattle.flux_nodes.specs.Laid.{id, numbers_of}
-use Rattle.flux_nodes.specs.Kept.{IsSpare, spare_head, free_cell, HasSpare, IsTaken, AreTaken, times_in}
+use Rattle.flux_nodes.specs.Kept.{IsSpare, spare_head, free_cell, HasSpare, IsTaken, AreTaken}
 use Rattle.flux_nodes.proofs.LaidLaws.{number_or}
 use Rattle.flux_nodes.proofs.TableLaws.{spare-kept, spare-within}
 use Rattle.flux_nodes.proofs.SpareLaws.{spare-drop, drop-more, preceded-past, preceded-at, spare-first}

@@ -1,4 +1,5 @@
 -- Trees that are laid out in cells, node by node from the last to the first.
+use Rattle.flux_nodes.specs.Tables.{one_if, times}
 use Rattle.std.specs.Prelude.{◌≡◌, ℕ, ◌+◌, ◌<◌, ◌≤◌, zero, suc, length, List, [], ◌∷◌, Option, Some, None}
 use Rattle.std.specs.List.{slice_get}
 use Rattle.std.proofs.Math.ListN.{get_or}
@@ -12,7 +13,7 @@ use Rattle.flux_nodes.specs.declared.cell.NodeId.{NodeId}
 use Rattle.flux_nodes.specs.declared.cell.Kind.{Kind}
 use Rattle.flux_nodes.specs.declared.cell.Kind.TheVariants.{Elem, Leaf}
 use Rattle.flux_nodes.specs.declared.cell.Cell.{Cell}
-use Rattle.flux_nodes.specs.Laid.{numbers_of, id, first_id, last_id, IsLaid, times, one_if}
+use Rattle.flux_nodes.specs.Laid.{numbers_of, id, first_id, last_id, IsLaid}
 
 -- what the cell of a node holds
 abbrev pub kind_of : Item → Kind

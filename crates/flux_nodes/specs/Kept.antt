@@ -1,4 +1,5 @@
 -- What the cells of a table keep, and what the calls on cells do.
+use Rattle.flux_nodes.specs.Tables.{one_if, times, times_in}
 use Rattle.std.specs.Prelude.{◌≡◌, ◌⊎◌, ℕ, ◌+◌, ◌-◌, ◌<◌, ◌≤◌, length, drop, List, [], ◌∷◌, ◌++◌, cond, Option, Some, None}
 use Rattle.std.specs.List.{slice_get, sum_by}
 use Rattle.std.proofs.Math.ListN.{get_or, set}
@@ -10,7 +11,7 @@ use Rattle.flux_nodes.specs.declared.run.Run.{Run}
 use Rattle.flux_nodes.specs.declared.run.Place.{Place}
 use Rattle.flux_nodes.specs.Tables.{Meaning, trees_at, made_in}
 use Rattle.flux_nodes.specs.Decoded.{is_kept, meaning_of}
-use Rattle.flux_nodes.specs.Laid.{id, first_id, last_id, IsLaid, times, one_if, edit, with_next}
+use Rattle.flux_nodes.specs.Laid.{id, first_id, last_id, IsLaid, edit, with_next}
 use Rattle.flux_trees.specs.Edits.{preceded}
 use Rattle.flux_nodes.specs.Tables.{copies}
 use Rattle.flux_nodes.specs.Laid.{numbers_of}
@@ -27,10 +28,6 @@ free_cell w =
 abbrev pub IsSpare : List Cell → List ℕ → Type 0
 IsSpare cells [] = Unit {0}
 IsSpare cells (m ∷ ms) = (slice_get cells m ≡ Some (free_cell (spare_head ms))) × IsSpare cells ms
-
-abbrev pub times_in : ℕ → List ℕ → ℕ
-times_in k [] = 0
-times_in k (m ∷ ms) = one_if k m + times_in k ms
 
 pub record HoldsRun (cells : List Cell) (i : ℕ) (h : Hedge ℕ) : Type 0 where
   pub laid : IsLaid cells None None h None

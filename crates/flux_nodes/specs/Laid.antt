@@ -1,4 +1,5 @@
 -- Cells that are the nodes of a numbered forest.
+use Rattle.flux_nodes.specs.Tables.{times}
 use Rattle.std.specs.Prelude.{◌≡◌, ℕ, ◌+◌, ◌≤◌, length, List, [], ◌∷◌, Bool, cond, eqb, Option, Some, None}
 use Rattle.std.proofs.Common.{zero, suc}
 use Rattle.std.specs.List.{slice_get}
@@ -42,15 +43,6 @@ IsLaid cells p v (elem m a c r) w =
     (slice_get cells m ≡ Some (elem_cell a p v (first_id r w) (first_id c None) (last_id c None))) × IsLaid cells (Some (id m)) None c None × IsLaid cells p (Some (id m)) r w
 IsLaid cells p v (leaf m x r) w =
     (slice_get cells m ≡ Some (leaf_cell x p v (first_id r w))) × IsLaid cells p (Some (id m)) r w
-
-abbrev pub one_if : ℕ → ℕ → ℕ
-one_if k m = cond (eqb k m) 1 0
-
--- how often a number occurs
-abbrev pub times : ℕ → Hedge ℕ → ℕ
-times k nil = 0
-times k (elem m a c r) = one_if k m + (times k c + times k r)
-times k (leaf m x r) = one_if k m + times k r
 
 -- one cell changed
 abbrev pub edit : (Cell → Cell) → ℕ → List Cell → List Cell

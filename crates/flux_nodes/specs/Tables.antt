@@ -1,5 +1,5 @@
 -- What a table of linked nodes holds, and what its calls do to it.
-use Rattle.std.specs.Prelude.{◌≡◌, ◌⊎◌, ℕ, ◌+◌, ◌-◌, zero, suc, length, drop, List, [], ◌∷◌, ◌++◌, Option, Some, None, refl}
+use Rattle.std.specs.Prelude.{◌≡◌, ◌⊎◌, ℕ, ◌+◌, ◌-◌, ◌<◌, ◌≤◌, cond, eqb, zero, suc, length, drop, List, [], ◌∷◌, ◌++◌, Option, Some, None, refl}
 use Rattle.std.specs.Coded.{Coded, code_by, coded×, coded_ℕ, coded_list}
 use Rattle.std.specs.List.{sum_by}
 use Rattle.std.proofs.Math.ListN.{get_or, set}
@@ -174,3 +174,29 @@ abbrev pub after_add : Meaning → Plain → Meaning
 after_add m nil = m
 after_add m (elem n a c r) = with_trees m (elem n a c r)
 after_add m (leaf n x r) = with_trees m (leaf n x r)
+
+-- whether two numbers are the same, as a count
+abbrev pub one_if : ℕ → ℕ → ℕ
+one_if k m = cond (eqb k m) 1 0
+
+-- how often a number occurs
+abbrev pub times : ℕ → Hedge ℕ → ℕ
+times k nil = 0
+times k (elem m a c r) = one_if k m + (times k c + times k r)
+times k (leaf m x r) = one_if k m + times k r
+
+abbrev pub times_in : ℕ → List ℕ → ℕ
+times_in k [] = 0
+times_in k (m ∷ ms) = one_if k m + times_in k ms
+
+-- how often a number stands anywhere
+abbrev pub times_all : ℕ → Meaning → ℕ
+times_all k m = times k m.document + (sum_by (times k) m.unlinked + times_in k m.spare)
+
+-- each number that was ever used stands just once, in the document, in an unlinked run or among the
+-- free ones, and no other stands anywhere; an unlinked run is listed at the number of its first tree
+pub record IsSound (m : Meaning) : Type 0 where
+  pub once : (k : ℕ) → k < length m.unlinked → times_all k m ≡ 1
+  pub none : (k : ℕ) → length m.unlinked ≤ k → times_all k m ≡ 0
+  pub listed : (i : ℕ) →
+      (get_or m.unlinked i nil ≡ nil) ⊎ (first_or None (get_or m.unlinked i nil) ≡ Some i)

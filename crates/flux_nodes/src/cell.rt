@@ -1,5 +1,5 @@
 // Cells that are linked by their numbers.
-ghost use Rattle.std.specs.Prelude.{◌≡◌, ◌<◌, length, slice_get, Some};
+ghost use Rattle.std.specs.Prelude.{◌≡◌, ◌<◌, length, slice_get, Some, IfOk};
 ghost use Rattle.flux_nodes.specs.declared.cell.Kind.TheVariants.{Elem};
 ghost use Rattle.flux_nodes.specs.declared.cell.Cell.{Cell};
 ghost use Rattle.flux_nodes.specs.Laid.{
@@ -14,6 +14,7 @@ ghost use Rattle.flux_nodes.specs.Laid.{
 ghost use Rattle.flux_nodes.specs.Kept.{free_cell};
 
 use flux_atom::{Atom, Name};
+use std::alloc::{AllocError, Global};
 
 /// The number of a node, which is the place of its cell in the table.
 #[derive(Clone, Copy, Debug, PartialEq, Eq)]
@@ -39,7 +40,33 @@ pub struct Cell {
     pub last: Option<NodeId>,
 }
 
+impl Kind {
+    fn copy(&self, alloc: Global) -> Result<Kind, AllocError>
+        ensures { IfOk result (λ copied. copied ≡ self.now) }
+    {
+        match self {
+            Kind::Elem(name) => Ok(Kind::Elem(*name)),
+            Kind::Leaf(atom) => Ok(Kind::Leaf(flux_atom::copy(alloc, atom)?)),
+            Kind::Free => Ok(Kind::Free),
+        }
+    }
+}
+
 impl Cell {
+    fn copy(&self, alloc: Global) -> Result<Cell, AllocError>
+        ensures { IfOk result (λ copied. copied ≡ self.now) }
+    {
+        let kind = self.kind.copy(alloc)?;
+        Ok(Cell {
+            kind,
+            parent: self.parent,
+            prev: self.prev,
+            next: self.next,
+            first: self.first,
+            last: self.last,
+        })
+    }
+
     // A free cell, and the free cell after it.
     pub(crate) fn free(next: Option<NodeId>) -> Cell
         ensures { result ≡ free_cell next }
@@ -144,4 +171,15 @@ pub(crate) fn put_cell(cells: &mut [Cell], at: NodeId, cell: Cell)
     ensures { cells.new ≡ edit (λ _. cell) at.0 cells.old }
 {
     cells[at.0 as usize] = cell;
+}
+
+pub(crate) fn copy_cells(alloc: Global, cells: &[Cell]) -> Result<Vec<Cell>, AllocError>
+    ensures { IfOk result (λ copied. copied.items ≡ cells.now) }
+{
+    let mut copies = Vec::new(alloc);
+    copies.try_reserve(cells.len())?;
+    for cell in cells {
+        copies.push(cell.copy(alloc)?)?;
+    }
+    Ok(copies)
 }

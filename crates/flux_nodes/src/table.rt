@@ -13,6 +13,7 @@ ghost use Rattle.flux_nodes.specs.Tables.{
   IsCellOf,
   IsUnlinked,
   IsRunOf,
+  IsSound,
   made_in,
   supply,
   tree_place,
@@ -25,7 +26,7 @@ ghost use Rattle.flux_nodes.specs.Tables.{
 };
 
 use crate::build::build;
-use crate::cell::{Cell, NodeId, put_label};
+use crate::cell::{Cell, NodeId, copy_cells, put_label};
 use crate::freeing::{free_run, nth_free};
 use crate::links::{link, unlink};
 use crate::run::{Place, Run, run_to};
@@ -197,5 +198,26 @@ impl Table {
             &mut self.made,
             run,
         );
+    }
+
+    /// A table with the same nodes, runs and numbers to come.
+    pub fn copy(&self, alloc: Global) -> Result<Table, AllocError>
+        ensures { IfOk result (λ copied. copied ≡ self.now) }
+    {
+        let cells = copy_cells(alloc, self.cells.as_slice())?;
+        Ok(Table {
+            cells,
+            top: self.top,
+            end: self.end,
+            free: self.free,
+            made: self.made,
+        })
+    }
+
+    /// No number stands twice, and none is lost. It does nothing: its contract is the law.
+    pub fn table_is_sound(&self)
+        ensures { IsSound self.now }
+    {
+        let _ = &self.cells;
     }
 }
