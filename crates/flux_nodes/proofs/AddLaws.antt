@@ -22,7 +22,7 @@ use Rattle.flux_forest.specs.Flat.{hedge_of, IsFlat}
 use Rattle.flux_forest.proofs.FlatLaws.{length-flat}
 use Rattle.std.proofs.lemmas.Option.{slice_get_within}
 use Rattle.flux_nodes.specs.declared.run.Run.{Run}
-use Rattle.flux_nodes.specs.Tables.{AreEnds, IsRunOf, first_or, number_of}
+use Rattle.flux_nodes.specs.Tables.{AreEnds, IsRunOf, IsNewRun, first_or, number_of}
 use Rattle.flux_nodes.specs.Laid.{last_id}
 use Rattle.flux_nodes.specs.Built.{CanBuild}
 use Rattle.flux_nodes.specs.Kept.{HasSpare}
@@ -30,7 +30,7 @@ use Rattle.flux_nodes.specs.Decoded.{spare_from}
 use Rattle.flux_nodes.proofs.SeenLaws.{spare-seen}
 use Rattle.flux_nodes.proofs.SpareLaws.{has_spare}
 use Rattle.flux_nodes.proofs.FrameLaws.{number-ids, first-ids, last-ids}
-use Rattle.flux_nodes.proofs.LaidLaws.{last_some, one_if-same, one_if-other, kept, first_within}
+use Rattle.flux_nodes.proofs.LaidLaws.{last_some, number_or, one_if-same, one_if-other, kept, first_within}
 use Rattle.flux_nodes.proofs.TableLaws.{laid-within, get-or-sum, spare-kept, spare-within, same_or_not}
 use Rattle.flux_nodes.proofs.MoveLaws.{below_or_not, none_past}
 use Rattle.flux_nodes.proofs.SeenLaws.{seen, holds, some-term}
@@ -194,11 +194,6 @@ added cs mid bs t e f g last m numbers v i a some len b =
       all = omega (arith, i.all, bs_long, sum_by-set size (m.unlinked ++ copies (size v - length m.spare) nil) (supply m 0) (numbered m v) nil within, ap size at, sum-padded size refl m.unlinked (size v - length m.spare), size-number v (supply m), length-drop (size v) m.spare);
     }
 
-pub add-some : (m : Meaning) (v : Plain) → 0 < size v → with_trees m v ≡ after_add m v
-add-some m nil l = absurd (omega arith)
-add-some m (elem n a c r) l = refl
-add-some m (leaf n x r) l = refl
-
 pub add-held : (cs bs : List Cell) (t e f g : Option NodeId) (made more : ℕ) (m : Meaning) (v : Plain) → IsHeld cs t e f made → meaning_of cs t f ≡ m → length bs ≡ length cs + (size v - length m.spare) → more ≡ made + size v → IsTable bs t e g (with_trees m v) → IsHeld bs t e g more
 add-held cs bs t e f g made more m v i held len sum j =
     let old : IsTable cs t e f m = table_of i held in
@@ -243,9 +238,14 @@ last-there nil s = absurd (omega arith)
 last-there (elem m a c r) s = let l = last_some r m in (id l.0, l.1)
 last-there (leaf m x r) s = let l = last_some r m in (id l.0, l.1)
 
+pub add-some : (m : Meaning) (v : Plain) → 0 < size v → with_trees m v ≡ after_add m v
+add-some m nil l = absurd (omega arith)
+add-some m (elem n a c r) l = refl
+add-some m (leaf n x r) l = refl
+
 -- the run that is told
-pub run-told : (cs mid bs : List Cell) (t e f g : Option NodeId) (m : Meaning) (numbers : List NodeId) (v : Plain) (first : NodeId) (last : Option NodeId) (run : Option Run) → IsTable cs t e f m → AreTaken cs mid m.spare g numbers (size v) → 0 < size v → IsBuilt mid bs (number v (numbers_of numbers)) last → first ≡ id (numbers_of numbers 0) → ((l : NodeId) → last ≡ Some l → run ≡ Some (record { first = first; last = l })) → IsRunOf run (number v (supply m))
-run-told cs mid bs t e f g m numbers v first last run i a some b fe told =
+pub run-told : (cs mid bs : List Cell) (t e f g : Option NodeId) (m : Meaning) (numbers : List NodeId) (v : Plain) (first : NodeId) (last : Option NodeId) (run : Option Run) → IsTable cs t e f m → AreTaken cs mid m.spare g numbers (size v) → 0 < size v → IsTable bs t e g (with_trees m v) → IsBuilt mid bs (number v (numbers_of numbers)) last → first ≡ id (numbers_of numbers 0) → ((l : NodeId) → last ≡ Some l → run ≡ Some (record { first = first; last = l })) → IsNewRun run (after_add m v) (number v (supply m))
+run-told cs mid bs t e f g m numbers v first last run i a some new b fe told =
     let same : number v (numbers_of numbers) ≡ numbered m v = number-taken cs mid t e f g m numbers v i a in
     let l = last-there (numbered m v) (omega (arith, some, size-number v (supply m))) in
     let last_is : last ≡ Some l.0 = b.last_is ∙ ap (λ h. last_id h None) same ∙ l.1 in
@@ -254,7 +254,13 @@ run-told cs mid bs t e f g m numbers v first last run i a some b fe told =
       first_is = sym (number-ids (first_or None (numbered m v))) ∙ ap number_of (sym (first-ids (numbered m v) None) ∙ first_is);
       last_is = sym (number-ids (last_or None (numbered m v))) ∙ ap number_of (sym (last-ids (numbered m v) None) ∙ l.1);
     } in
-    subst (λ r. IsRunOf r (number v (supply m))) (sym (told l.0 last_is)) ends
+    let at : first.0 ≡ supply m 0 = ap number_or (sym first_is ∙ first-some v (supply m) some) in
+    let laid : IsLaid bs None None (numbered m v) None = subst (λ h. IsLaid bs None None h None) same b.laid in
+    let lt : supply m 0 < length bs = laid-within bs None None (numbered m v) None (supply m 0) laid (first_within (numbered m v) (supply m 0) (first-some v (supply m) some)) in
+    let within : supply m 0 < length (m.unlinked ++ copies (size v - length m.spare) nil) = omega (arith, lt, new.runs_length, length-set (m.unlinked ++ copies (size v - length m.spare) nil) (supply m 0) (numbered m v)) in
+    let there : get_or (with_trees m v).unlinked first.0 nil ≡ numbered m v = ap (λ k. get_or (with_trees m v).unlinked k nil) at ∙ get_or-set_same (m.unlinked ++ copies (size v - length m.spare) nil) (supply m 0) (numbered m v) nil within in
+    let all : get_or (after_add m v).unlinked first.0 nil ≡ numbered m v = ap (λ (n : Meaning). get_or n.unlinked first.0 nil) (sym (add-some m v some)) ∙ there in
+    subst (λ r. IsNewRun r (after_add m v) (number v (supply m))) (sym (told l.0 last_is)) (ends, all)
 
 pub size-some : (v : Plain) → (v ≡ nil → ⊥) → 0 < size v
 size-some nil n = absurd (n refl)

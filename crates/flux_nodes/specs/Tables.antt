@@ -123,6 +123,11 @@ pub record IsCellOf (c : Cell) (fs : List (Frame ℕ)) (tree : Hedge ℕ) : Type
 abbrev pub trees_at : Meaning → Run → Hedge ℕ
 trees_at m run = get_or m.unlinked run.first.0 nil
 
+-- it is the unlinked run of just these trees, or there are none
+abbrev pub IsNewRun : Option Run → Meaning → Hedge ℕ → Type 0
+IsNewRun None m h = h ≡ nil
+IsNewRun (Some run) m h = AreEnds run h × (trees_at m run ≡ h)
+
 -- it is a whole unlinked run
 abbrev pub IsUnlinked : Meaning → Run → Type 0
 IsUnlinked m run = AreEnds run (trees_at m run)

@@ -13,6 +13,7 @@ ghost use Rattle.flux_nodes.specs.Tables.{
   IsCellOf,
   IsUnlinked,
   IsRunOf,
+  IsNewRun,
   IsSound,
   made_in,
   supply,
@@ -170,7 +171,7 @@ impl Table {
     pub fn add_tree_cells(&mut self, view: View<'_>) -> Result<Option<Run>, AllocError>
         ensures ok { IfOk result (λ _. self.new ≡ after_add self.old (forest_of view.entry)) }
         ensures run { IfOk result (λ run.
-            IsRunOf run (number (forest_of view.entry) (supply self.old))) }
+            IsNewRun run self.new (number (forest_of view.entry) (supply self.old))) }
         ensures err { OnErr result (self.new ≡ self.old) }
     {
         if view.is_empty() {
