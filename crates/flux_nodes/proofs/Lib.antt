@@ -17,3 +17,5 @@ pub mod BuildingLaws
 pub mod TakingLaws
 pub mod AddLaws
 pub mod SoundLaws
+pub mod CopyLaws
+pub mod PartLaws

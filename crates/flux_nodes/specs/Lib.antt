@@ -4,3 +4,4 @@ pub mod Seats
 pub mod Decoded
 pub mod Kept
 pub mod Built
+pub mod Copied

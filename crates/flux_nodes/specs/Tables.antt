@@ -80,6 +80,10 @@ pub record RunAt (h : Hedge ℕ) (run : Run) : Type 0 where
   pub forest_is : h ≡ plug frames trees
   pub ends : AreEnds run trees
 
+-- the run is a part of the document or of an unlinked run
+abbrev pub IsPart : Meaning → Run → Type 0
+IsPart m run = RunAt m.document run ⊎ ((i : ℕ) × RunAt (get_or m.unlinked i nil) run)
+
 -- a place, and what stands around it
 pub record PlaceAt (h : Hedge ℕ) (place : Place) : Type 0 where
   pub frames : List (Frame ℕ)

@@ -1,5 +1,6 @@
 // Cells that are linked by their numbers.
 ghost use Rattle.std.specs.Prelude.{◌≡◌, ◌<◌, length, slice_get, Some, IfOk};
+ghost use Rattle.std.proofs.Math.ListN.{get_or};
 ghost use Rattle.flux_nodes.specs.declared.cell.Kind.TheVariants.{Elem};
 ghost use Rattle.flux_nodes.specs.declared.cell.Cell.{Cell};
 ghost use Rattle.flux_nodes.specs.Laid.{
@@ -122,6 +123,13 @@ pub(crate) fn put_label(cells: &mut [Cell], at: NodeId, name: Name)
     ensures { cells.new ≡ edit (with_kind (Elem name)) at.0 cells.old }
 {
     cells[at.0 as usize].kind = Kind::Elem(name);
+}
+
+pub(crate) fn cell_at(cells: &[Cell], at: NodeId) -> &Cell
+    requires { at.0 < length cells.now }
+    ensures { result.now ≡ get_or cells.now at.0 result.now }
+{
+    &cells[at.0 as usize]
 }
 
 pub(crate) fn parent_of(cells: &[Cell], at: NodeId) -> Option<NodeId>

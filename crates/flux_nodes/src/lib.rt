@@ -3,6 +3,7 @@
 
 mod build;
 mod cell;
+mod copying;
 mod freeing;
 mod links;
 mod parents;

@@ -1,11 +1,13 @@
 // A document as a table of linked nodes.
 ghost use Rattle.std.specs.Prelude.{◌≡◌, ◌<◌, ◌^◌, ℕ, IfOk, OnErr};
 ghost use Rattle.std.proofs.Math.ListN.{get_or};
-ghost use Rattle.flux_trees.specs.Hedge.{nil};
+ghost use Rattle.flux_trees.specs.Hedge.{nil, erase};
+ghost use Rattle.flux_trees.specs.Draft.{done};
 ghost use Rattle.flux_trees.specs.Edits.{place_in, number};
 ghost use Rattle.flux_forest.specs.View.{forest_of};
 ghost use Rattle.flux_nodes.specs.Tables.{
   RunAt,
+  IsPart,
   PlaceAt,
   ElementAt,
   NodeAt,
@@ -28,12 +30,13 @@ ghost use Rattle.flux_nodes.specs.Tables.{
 
 use crate::build::build;
 use crate::cell::{Cell, NodeId, copy_cells, put_label};
+use crate::copying::copy_trees;
 use crate::freeing::{free_run, nth_free};
 use crate::links::{link, unlink};
 use crate::run::{Place, Run, run_to};
 use crate::taking::take_numbers;
 use flux_atom::Name;
-use flux_forest::{View, push_copies};
+use flux_forest::{Forest, View, push_copies};
 use std::alloc::{AllocError, Global};
 use std::marker::Model;
 
@@ -213,6 +216,17 @@ impl Table {
             free: self.free,
             made: self.made,
         })
+    }
+
+    /// A forest of the trees of a run, without their numbers.
+    pub fn copy_run(&self, alloc: Global, run: Run) -> Result<Forest, AllocError>
+        requires { IsPart self.now run }
+        ensures document { (at : RunAt self.now.document run) →
+            IfOk result (λ copied. copied ≡ done (erase at.trees)) }
+        ensures unlinked { (i : ℕ) (at : RunAt (get_or self.now.unlinked i nil) run) →
+            IfOk result (λ copied. copied ≡ done (erase at.trees)) }
+    {
+        copy_trees(alloc, self.cells.as_slice(), run)
     }
 
     /// No number stands twice, and none is lost. It does nothing: its contract is the law.
