@@ -1,6 +1,6 @@
 -- Trees that were built in a table, as an unlinked run.
 use Rattle.flux_nodes.specs.Tables.{one_if, times, times_in}
-use Rattle.std.proofs.Common.{◌≡◌, ◌≢◌, ◌⊎◌, inl, inr, ℕ, ◌+◌, ◌-◌, ◌<◌, ◌≤◌, zero, suc, List, [], ◌∷◌, ◌++◌, Bool, false, length, take, drop, Option, Some, None, refl, ap, ap₂, ◌∙◌, sym, subst, arith, length-append}
+use Rattle.std.proofs.Common.{◌≡◌, ◌≢◌, inl, inr, ℕ, ◌+◌, ◌-◌, ◌<◌, ◌≤◌, zero, suc, List, [], ◌∷◌, ◌++◌, Bool, false, length, take, drop, Option, Some, None, refl, ap, ◌∙◌, sym, subst, arith, length-append}
 use Rattle.std.specs.List.{slice_get, sum_by}
 use Rattle.std.specs.Bool.{IsTrue}
 use Rattle.std.proofs.Math.ListN.{set, get_or}
@@ -13,7 +13,6 @@ use Rattle.flux_nodes.specs.declared.cell.Cell.{Cell}
 use Rattle.flux_nodes.specs.Tables.{Meaning, supply, made_in, copies, with_trees, after_add}
 use Rattle.flux_nodes.specs.Decoded.{meaning_of}
 use Rattle.flux_nodes.specs.Laid.{id, numbers_of, first_id, IsLaid}
-use Rattle.flux_nodes.specs.Seats.{IsDoc}
 use Rattle.flux_nodes.specs.Kept.{IsTable, HoldsRun, IsSpare, IsHeld, AreTaken, free_cell}
 use Rattle.flux_nodes.specs.Built.{IsBuilt}
 use Rattle.flux_trees.specs.Edits.{last_or}

@@ -1,15 +1,13 @@
 -- A node put before the trees behind it.
 use Rattle.flux_nodes.specs.Tables.{one_if, times}
-use Rattle.std.proofs.Common.{◌≡◌, ◌≢◌, ℕ, ◌+◌, ◌<◌, ◌≤◌, zero, suc, List, [], ◌∷◌, length, Option, Some, None, refl, ap, ap₂, ◌∙◌, sym, subst, arith}
+use Rattle.std.proofs.Common.{◌≡◌, ℕ, ◌+◌, ◌<◌, ◌≤◌, zero, suc, List, length, Option, Some, None, refl, ap, ◌∙◌, sym, subst, arith}
 use Rattle.std.specs.List.{slice_get}
 use Rattle.std.proofs.Math.ListN.{get_or}
 use Rattle.std.proofs.lemmas.Option.{slice_get-get_or, get_or_from_slice_get}
 use Rattle.flux_atom.specs.declared.atom.Atom.{Atom}
 use Rattle.flux_trees.specs.Hedge.{Hedge, Plain, nil, elem, leaf, join, size, opened}
 use Rattle.flux_trees.specs.Edits.{Supply, beyond, number}
-use Rattle.flux_forest.specs.declared.node.Item.{Item}
 use Rattle.flux_forest.specs.declared.node.Node.{Node}
-use Rattle.flux_forest.specs.Flat.{element_node, leaf_node}
 use Rattle.flux_nodes.specs.declared.cell.NodeId.{NodeId}
 use Rattle.flux_nodes.specs.declared.cell.Kind.{Kind}
 use Rattle.flux_nodes.specs.declared.cell.Kind.TheVariants.{Elem, Leaf}
@@ -17,7 +15,7 @@ use Rattle.flux_nodes.specs.declared.cell.Cell.{Cell}
 use Rattle.flux_nodes.specs.Laid.{numbers_of, id, first_id, last_id, elem_cell, leaf_cell, IsLaid, edit}
 use Rattle.flux_nodes.specs.Seats.{behind, behind_top}
 use Rattle.flux_nodes.specs.Built.{kind_of, IsHeadNode, IsBuilt, HasTrees, IsEnclosed, HasNode}
-use Rattle.flux_nodes.proofs.LaidLaws.{one_if-same, kept, last_id-join}
+use Rattle.flux_nodes.proofs.LaidLaws.{one_if-same, kept}
 use Rattle.flux_nodes.proofs.NumberLaws.{number-opened, number-behind, first-some, first-none, size-number, same_at}
 use Rattle.flux_nodes.proofs.EncloseLaws.{IsFront, front, front-last}
 

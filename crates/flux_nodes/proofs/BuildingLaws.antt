@@ -1,17 +1,17 @@
 -- Nodes laid out from the last to the first.
-use Rattle.flux_nodes.specs.Tables.{one_if, times}
-use Rattle.std.proofs.Common.{◌≡◌, ◌≢◌, ℕ, ◌+◌, ◌-◌, ◌<◌, ◌≤◌, zero, suc, List, [], ◌∷◌, ◌++◌, length, take, drop, Option, Some, None, refl, ap, ap₂, ◌∙◌, sym, subst, arith, length-append}
+use Rattle.flux_nodes.specs.Tables.{times}
+use Rattle.std.proofs.Common.{◌≡◌, ℕ, ◌+◌, ◌<◌, ◌≤◌, zero, suc, List, [], ◌∷◌, ◌++◌, length, take, drop, Option, None, refl, ap, ap₂, ◌∙◌, sym, subst, arith, length-append}
 use Rattle.std.specs.List.{slice_get}
 use Rattle.std.specs.Option.{IsSome}
 use Rattle.std.proofs.lemmas.List.{length-drop}
-use Rattle.flux_trees.specs.Hedge.{Hedge, Plain, nil, elem, leaf, join, size, opened}
+use Rattle.flux_trees.specs.Hedge.{Plain, nil, elem, leaf, size, opened}
 use Rattle.flux_trees.specs.Edits.{Supply, beyond, number}
 use Rattle.flux_forest.specs.declared.node.Node.{Node}
-use Rattle.flux_forest.specs.Flat.{element_node, leaf_node, flat, hedge_of, IsFlat}
+use Rattle.flux_forest.specs.Flat.{element_node, leaf_node, flat, hedge_of}
 use Rattle.flux_forest.proofs.FlatLaws.{flat-join, length-flat}
 use Rattle.flux_nodes.specs.declared.cell.NodeId.{NodeId}
 use Rattle.flux_nodes.specs.declared.cell.Cell.{Cell}
-use Rattle.flux_nodes.specs.Laid.{numbers_of, id, first_id, last_id, IsLaid}
+use Rattle.flux_nodes.specs.Laid.{numbers_of, last_id, IsLaid}
 use Rattle.flux_nodes.specs.Built.{IsHeadNode, IsBuilt, HasNode, CanBuild}
 use Rattle.flux_nodes.proofs.LaidLaws.{times-join}
 use Rattle.flux_nodes.proofs.NumberLaws.{number-opened, number-behind, number-same, same_at, times-number, hits, hits-add}

@@ -1,8 +1,8 @@
 -- What the calls on cells have at hand.
 use Rattle.flux_nodes.specs.Tables.{one_if, times}
-use Rattle.std.proofs.Common.{◌≡◌, ◌≢◌, ◌⊎◌, inl, inr, ℕ, ◌+◌, ◌<◌, ◌≤◌, zero, suc, List, [], ◌∷◌, length, Option, Some, None, refl, ap, ap₂, ◌∙◌, sym, subst, arith}
-use Rattle.std.specs.List.{slice_get, sum_by}
-use Rattle.std.proofs.Math.ListN.{set, get_or}
+use Rattle.std.proofs.Common.{◌≡◌, inl, inr, ℕ, ◌+◌, ◌<◌, List, [], length, Option, Some, None, refl, ap, ◌∙◌, sym, subst, arith}
+use Rattle.std.specs.List.{slice_get}
+use Rattle.std.proofs.Math.ListN.{get_or}
 use Rattle.std.proofs.lemmas.Option.{slice_get_within}
 use Rattle.flux_trees.specs.Hedge.{Hedge, nil, elem, leaf, join, size}
 use Rattle.flux_trees.proofs.HedgeLaws.{size-join}
@@ -13,7 +13,7 @@ use Rattle.std.proofs.lemmas.List.{set-get_or}
 use Rattle.flux_nodes.specs.declared.run.Run.{Run}
 use Rattle.flux_nodes.specs.declared.run.Place.{Place}
 use Rattle.flux_nodes.specs.Laid.{id, first_id, last_id, elem_cell, leaf_cell, IsLaid, edit, with_prev, with_next, with_kind, RunLaid, IsUnder}
-use Rattle.flux_nodes.specs.Seats.{IsDoc, Seat, seated, Above, top, under, fill, parent_of, times_above, IsAbove, ahead, ahead_top, behind, behind_top}
+use Rattle.flux_nodes.specs.Seats.{IsDoc, seated, Above, top, under, parent_of, times_above, IsAbove, ahead_top, behind_top}
 use Rattle.flux_nodes.specs.Tables.{Meaning, trees_at}
 use Rattle.flux_nodes.specs.Decoded.{meaning_of}
 use Rattle.flux_nodes.specs.Kept.{IsTable, HoldsRun, IsWithin, Follows, RunSeat, PlaceSeat, IsLoose, HasRun, HasPlace, seat_unlink, seat_link, ElementSeat, seat_label}

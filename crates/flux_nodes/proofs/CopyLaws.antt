@@ -1,5 +1,5 @@
 -- A walk along the links of trees.
-use Rattle.std.proofs.Common.{◌≡◌, ◌≢◌, ◌⊎◌, inl, inr, ℕ, ◌+◌, ◌-◌, ◌*◌, ◌<◌, ◌≤◌, zero, suc, List, length, Option, Some, None, refl, ap, ap₂, ◌∙◌, sym, subst, arith}
+use Rattle.std.proofs.Common.{◌≡◌, ◌≢◌, ◌⊎◌, inl, inr, ℕ, ◌+◌, ◌<◌, ◌≤◌, zero, suc, List, length, Option, Some, None, refl, ap, ◌∙◌, sym, subst, arith}
 use Rattle.std.specs.List.{slice_get}
 use Rattle.std.specs.Bool.{IsTrue}
 use Rattle.std.proofs.Common.{Bool, true, false}
@@ -9,22 +9,19 @@ use Rattle.flux_nodes.specs.Kept.{IsWithin}
 use Rattle.flux_nodes.proofs.CallLaws.{within-first, first_cell}
 use Rattle.flux_atom.specs.declared.atom.Atom.{Atom}
 use Rattle.flux_trees.specs.Hedge.{Hedge, Plain, nil, elem, leaf, join, size, erase}
-use Rattle.flux_trees.specs.Draft.{Draft, done, begun, depth, add, begin, end}
+use Rattle.flux_trees.specs.Draft.{done, begun, depth, add, begin, end}
 use Rattle.flux_trees.proofs.HedgeLaws.{join-nil, join_assoc, size-join, erase-join, size-erase}
 use Rattle.flux_forest.specs.Flat.{PlainDraft}
 use Rattle.flux_nodes.specs.declared.cell.NodeId.{NodeId}
-use Rattle.flux_nodes.specs.declared.cell.Kind.{Kind}
 use Rattle.flux_nodes.specs.declared.cell.Kind.TheVariants.{Elem, Leaf, Free}
 use Rattle.flux_nodes.specs.declared.cell.Cell.{Cell}
 use Rattle.flux_nodes.specs.declared.run.Run.{Run}
 use Rattle.flux_nodes.specs.declared.copying.Walk.{Walk}
 use Rattle.flux_nodes.specs.Tables.{times, one_if}
 use Rattle.flux_nodes.specs.Laid.{id, first_id, last_id, elem_cell, leaf_cell, IsLaid, RunLaid}
-use Rattle.flux_nodes.specs.Seats.{Above, top, under, fill, times_above}
+use Rattle.flux_nodes.specs.Seats.{Above, top, under, fill}
 use Rattle.flux_nodes.specs.Copied.{parent_from, begun_around, written_in, steps_to, IsWalk, HasWalk, WentOn}
 use Rattle.flux_nodes.proofs.LaidLaws.{one_if-same, laid-join, last_id-join, times-join, last_in, last_within, first_id-any, last_id-any, number_or}
-use Rattle.flux_nodes.proofs.SeatLaws.{times-fill}
-use Rattle.flux_nodes.proofs.SeenLaws.{one_cell}
 use Rattle.flux_nodes.proofs.TableLaws.{same_or_not}
 use Rattle.flux_nodes.proofs.TableCalls.{none-nil}
 

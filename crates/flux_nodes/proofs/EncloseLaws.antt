@@ -1,18 +1,17 @@
 -- Trees that are laid out, put into a parent.
 use Rattle.flux_nodes.specs.Tables.{one_if, times}
-use Rattle.std.proofs.Common.{◌≡◌, ◌≢◌, ℕ, ◌+◌, ◌<◌, ◌≤◌, List, [], ◌∷◌, length, Option, Some, None, refl, ap, ap₂, ◌∙◌, sym, subst, arith}
+use Rattle.std.proofs.Common.{◌≡◌, ◌≢◌, ℕ, ◌+◌, ◌<◌, ◌≤◌, List, length, Option, Some, None, refl, ap, ◌∙◌, sym, subst, arith}
 use Rattle.std.specs.List.{slice_get}
 use Rattle.std.proofs.Math.ListN.{get_or}
 use Rattle.std.proofs.lemmas.Option.{slice_get-get_or}
-use Rattle.flux_trees.specs.Hedge.{Hedge, nil, elem, leaf, join, size}
+use Rattle.flux_trees.specs.Hedge.{Hedge, nil, elem, leaf, join}
 use Rattle.flux_nodes.specs.declared.cell.NodeId.{NodeId}
 use Rattle.flux_nodes.specs.declared.cell.Cell.{Cell}
-use Rattle.flux_nodes.specs.declared.run.Run.{Run}
-use Rattle.flux_nodes.specs.Laid.{id, first_id, last_id, elem_cell, leaf_cell, IsLaid, edit, with_next, with_prev, RunLaid, IsUnder}
+use Rattle.flux_nodes.specs.Laid.{id, first_id, last_id, IsLaid, edit, with_next, with_prev, RunLaid, IsUnder}
 use Rattle.flux_nodes.specs.Seats.{behind, behind_top}
-use Rattle.flux_nodes.specs.Kept.{IsWithin, free_cell}
+use Rattle.flux_nodes.specs.Kept.{IsWithin}
 use Rattle.flux_nodes.specs.Built.{HasTrees, IsEnclosed, IsLastBefore}
-use Rattle.flux_nodes.proofs.LaidLaws.{one_if-same, edit-same, edit-other, edit-length, kept, kept-edit, last_id-join, laid-join, first_within, last_within, relink_next, relink_prev, last_id-any, last_some}
+use Rattle.flux_nodes.proofs.LaidLaws.{one_if-same, edit-same, edit-other, kept, kept-edit, last_id-join, laid-join, first_within, last_within, relink_next, relink_prev}
 use Rattle.flux_nodes.proofs.CallLaws.{first_cell, within-first}
 use Rattle.flux_nodes.proofs.TableCalls.{none-nil, no_last-nil}
 

@@ -1,8 +1,8 @@
 -- Frames as a seat: the elements around a place, and the trees beside it.
-use Rattle.std.proofs.Common.{◌≡◌, ℕ, List, [], ◌∷◌, Option, Some, None, refl, ap, ◌∙◌, sym, subst}
+use Rattle.std.proofs.Common.{◌≡◌, ℕ, List, [], ◌∷◌, Option, Some, None, refl, ap, ◌∙◌, sym}
 use Rattle.flux_trees.specs.Hedge.{Hedge, nil, elem, leaf, join}
 use Rattle.flux_trees.specs.Frame.{Frame, Down, Before, After, Each, plug}
-use Rattle.flux_trees.specs.Edits.{last_or, parent_in, left_in, place_in}
+use Rattle.flux_trees.specs.Edits.{last_or, parent_in, left_in}
 use Rattle.flux_trees.specs.Edits.{Place as TreePlace}
 use Rattle.flux_trees.proofs.HedgeLaws.{join-nil, join_assoc}
 use Rattle.flux_nodes.specs.declared.cell.NodeId.{NodeId}

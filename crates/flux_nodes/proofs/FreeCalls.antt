@@ -1,17 +1,16 @@
 -- A run freed, in a table.
-use Rattle.flux_nodes.specs.Tables.{times, times_in}
-use Rattle.std.proofs.Common.{◌≡◌, ◌≢◌, ◌⊎◌, inl, inr, ℕ, ◌+◌, ◌<◌, ◌≤◌, List, [], ◌∷◌, ◌++◌, length, true, Option, Some, None, refl, ap, ap₂, ◌∙◌, sym, subst, arith, length-append}
+use Rattle.flux_nodes.specs.Tables.{times}
+use Rattle.std.proofs.Common.{◌≡◌, inl, inr, ℕ, ◌+◌, ◌<◌, ◌≤◌, List, ◌++◌, length, true, Option, Some, None, refl, ap, ◌∙◌, sym, subst, arith, length-append}
 use Rattle.std.specs.List.{slice_get, sum_by}
 use Rattle.std.proofs.Math.ListN.{set, get_or}
 use Rattle.std.proofs.lemmas.Option.{slice_get-get_or}
 use Rattle.std.proofs.lemmas.List.{get_or-set_other, get_or-set_same, length-set}
 use Rattle.std.proofs.lemmas.List.Sums.{sum_by-set}
-use Rattle.flux_trees.specs.Hedge.{Hedge, nil, elem, leaf, join, size, notes}
+use Rattle.flux_trees.specs.Hedge.{Hedge, nil, elem, leaf, size, notes}
 use Rattle.flux_nodes.specs.declared.cell.NodeId.{NodeId}
 use Rattle.flux_nodes.specs.declared.cell.Cell.{Cell}
 use Rattle.flux_nodes.specs.declared.run.Run.{Run}
-use Rattle.flux_nodes.specs.Laid.{id, first_id, last_id, IsLaid, edit, with_next}
-use Rattle.flux_nodes.specs.Seats.{IsDoc}
+use Rattle.flux_nodes.specs.Laid.{first_id, edit, with_next}
 use Rattle.flux_nodes.specs.Tables.{Meaning, trees_at, after_free}
 use Rattle.flux_nodes.specs.Kept.{IsTable, HoldsRun, IsLoose, HasLoose, held, freed, going_on, IsFreed, IsWithin, spare_head, spliced, free_cell}
 use Rattle.flux_nodes.specs.Decoded.{meaning_of, is_kept}
@@ -24,7 +23,7 @@ use Rattle.flux_nodes.proofs.CallLaws.{loose-first}
 use Rattle.flux_nodes.proofs.SeenLaws.{seen, holds}
 use Rattle.flux_nodes.proofs.FrameLaws.{loose}
 use Rattle.flux_nodes.proofs.TableCalls.{table_of}
-use Rattle.flux_nodes.proofs.FreeLaws.{Freeing, Turn, IsAllFree, begin, turn, over, chain-spare, times_in-append, times_in-notes, length-notes, IsChain, head_or, held-next, held-free}
+use Rattle.flux_nodes.proofs.FreeLaws.{Freeing, Turn, IsAllFree, begin, turn, over, chain-spare, times_in-append, times_in-notes, length-notes, IsChain, held-next, held-free}
 
 pub free-table : (cs bs : List Cell) (t e f : Option NodeId) (m : Meaning) (run : Run) → IsTable cs t e f m → IsLoose m run → length bs ≡ length cs → IsAllFree cs bs (trees_at m run) f → IsTable bs t e (Some run.first) (after_free m run)
 free-table cs bs t e f m run i l len a =

@@ -19,3 +19,4 @@ pub mod AddLaws
 pub mod SoundLaws
 pub mod CopyLaws
 pub mod PartLaws
+pub mod RootLaws

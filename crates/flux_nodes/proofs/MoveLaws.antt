@@ -1,18 +1,17 @@
-use Rattle.flux_nodes.specs.Tables.{one_if, times}
-use Rattle.std.proofs.Common.{◌≡◌, ◌≢◌, ◌⊎◌, inl, inr, ℕ, ◌+◌, ◌<◌, ◌≤◌, zero, suc, List, [], ◌∷◌, length, Option, Some, None, refl, ap, ap₂, ◌∙◌, sym, subst, arith}
-use Rattle.std.specs.List.{slice_get, sum_by}
-use Rattle.std.proofs.Math.ListN.{set, get_or}
-use Rattle.std.proofs.lemmas.Option.{slice_get_within}
-use Rattle.flux_trees.specs.Hedge.{Hedge, nil, elem, leaf, join, size}
+use Rattle.flux_nodes.specs.Tables.{times}
+use Rattle.std.proofs.Common.{◌≡◌, ◌⊎◌, inl, inr, ℕ, ◌+◌, ◌<◌, ◌≤◌, zero, suc, List, length, Option, Some, None, refl, ap, ◌∙◌, sym, subst, arith}
+use Rattle.std.specs.List.{slice_get}
+use Rattle.std.proofs.Math.ListN.{get_or}
+use Rattle.flux_trees.specs.Hedge.{Hedge, nil, join, size}
 use Rattle.flux_nodes.specs.declared.cell.NodeId.{NodeId}
 use Rattle.flux_nodes.specs.declared.cell.Cell.{Cell}
 use Rattle.flux_nodes.specs.declared.run.Run.{Run}
-use Rattle.flux_nodes.specs.Laid.{id, first_id, last_id, elem_cell, leaf_cell, IsLaid, edit, with_prev, with_next, with_first, with_last, RunLaid, IsUnder}
-use Rattle.flux_nodes.specs.Seats.{IsDoc, Seat, seated, Above, top, under, fill, parent_of, times_above, ahead, ahead_top, behind, behind_top}
+use Rattle.flux_nodes.specs.Laid.{first_id, last_id, IsLaid, edit, with_prev, with_next, with_first, with_last, RunLaid, IsUnder}
+use Rattle.flux_nodes.specs.Seats.{IsDoc, Seat, seated, parent_of, times_above, ahead, ahead_top, behind, behind_top}
 use Rattle.flux_nodes.specs.Tables.{Meaning, trees_at}
-use Rattle.flux_nodes.specs.Kept.{IsTable, HoldsRun, RunSeat, PlaceSeat, IsLoose, seat_unlink, seat_link}
-use Rattle.flux_nodes.proofs.LaidLaws.{one_if-same, edit-length, edit-other, kept, first_within, last_within, relink_prev, relink_next, number_or, first_id-any, last_id-any}
-use Rattle.flux_nodes.proofs.SeatLaws.{IsAround, IsReseated, reseated, reseat, seat-split, seat-join, around-kept, times-seated, size-fill}
+use Rattle.flux_nodes.specs.Kept.{IsTable, RunSeat, seat_unlink, seat_link}
+use Rattle.flux_nodes.proofs.LaidLaws.{edit-length, edit-other, kept, first_within, last_within, relink_prev, relink_next}
+use Rattle.flux_nodes.proofs.SeatLaws.{IsAround, reseated, reseat, seat-split, seat-join, around-kept, times-seated, size-fill}
 use Rattle.flux_nodes.proofs.TableLaws.{moved, laid-within, get-or-sum}
 use Rattle.flux_trees.proofs.HedgeLaws.{size-join}
 

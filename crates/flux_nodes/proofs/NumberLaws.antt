@@ -1,10 +1,9 @@
 -- Forests that are numbered from a supply.
 use Rattle.flux_nodes.specs.Tables.{one_if, times}
-use Rattle.std.proofs.Common.{◌≡◌, ℕ, ◌+◌, ◌-◌, ◌<◌, ◌≤◌, zero, suc, List, [], ◌∷◌, length, Option, Some, None, refl, ap, ap₂, ◌∙◌, sym, subst, arith}
-use Rattle.flux_trees.specs.Hedge.{Hedge, Plain, nil, elem, leaf, join, size, opened, notes}
+use Rattle.std.proofs.Common.{◌≡◌, ℕ, ◌+◌, ◌<◌, zero, suc, Some, None, refl, ap, ap₂, ◌∙◌, arith}
+use Rattle.flux_trees.specs.Hedge.{Plain, nil, elem, leaf, join, size, opened}
 use Rattle.flux_trees.specs.Edits.{Supply, beyond, number}
-use Rattle.flux_nodes.specs.declared.cell.NodeId.{NodeId}
-use Rattle.flux_nodes.specs.Laid.{id, first_id, last_id}
+use Rattle.flux_nodes.specs.Laid.{id, first_id}
 
 pub same_at : (s : Supply) (i j : ℕ) → i ≡ j → s i ≡ s j
 same_at s i j e = ap s e

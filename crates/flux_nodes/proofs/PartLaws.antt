@@ -1,6 +1,5 @@
 -- A run that is a part of the document or of an unlinked run.
-use Rattle.std.proofs.Common.{◌≡◌, ℕ, ◌+◌, ◌<◌, ◌≤◌, List, length, Option, Some, None, Result, refl, ap, ◌∙◌, sym, subst, arith}
-use Rattle.std.specs.List.{sum_by}
+use Rattle.std.proofs.Common.{◌≡◌, ℕ, ◌≤◌, List, length, Option, None, Result, refl, ap, ◌∙◌, sym, subst, arith}
 use Rattle.std.specs.Prelude.{IfOk}
 use Rattle.std.proofs.Math.ListN.{get_or}
 use Rattle.flux_trees.specs.Hedge.{Hedge, nil, join, size, erase}

@@ -1,5 +1,5 @@
 use Rattle.flux_nodes.specs.Tables.{one_if, times}
-use Rattle.std.proofs.Common.{◌≡◌, ◌≢◌, ℕ, ◌+◌, ◌<◌, ◌≤◌, suc, List, length, Option, Some, None, refl, ap, ap₂, ◌∙◌, sym, subst, arith}
+use Rattle.std.proofs.Common.{◌≡◌, ◌≢◌, ℕ, ◌+◌, ◌<◌, ◌≤◌, suc, List, length, Option, Some, None, refl, ap, ◌∙◌, sym, subst, arith}
 use Rattle.std.specs.List.{slice_get}
 use Rattle.std.proofs.lemmas.Option.{slice_get_within}
 use Rattle.flux_atom.specs.declared.atom.Atom.{Atom}
@@ -9,7 +9,7 @@ use Rattle.flux_nodes.specs.declared.cell.NodeId.{NodeId}
 use Rattle.flux_nodes.specs.declared.cell.Cell.{Cell}
 use Rattle.flux_nodes.specs.Laid.{id, first_id, last_id, elem_cell, leaf_cell, IsLaid, edit, with_parent, count, RunLaid, IsUnder}
 use Rattle.flux_nodes.specs.declared.run.Run.{Run}
-use Rattle.flux_nodes.proofs.LaidLaws.{one_if-same, edit-same, edit-other, edit-length, kept, kept-edit, first_id-join, last_id-join, times-join, laid-join, join-laid, last_within, number_or}
+use Rattle.flux_nodes.proofs.LaidLaws.{one_if-same, edit-same, edit-other, kept-edit, last_id-join, times-join, join-laid, last_within, number_or}
 
 pub record Passed (old now : List Cell) (h : Hedge ℕ) (p v w o : Option NodeId) (at i : ℕ) : Type 0 where
   pub done : Hedge ℕ

@@ -1,11 +1,11 @@
 use Rattle.flux_nodes.specs.Tables.{one_if, times}
-use Rattle.std.proofs.Common.{◌≡◌, ◌≢◌, ℕ, ◌+◌, ◌<◌, ◌≤◌, List, Option, Some, None, refl, ap, ap₂, ◌∙◌, sym, subst, arith}
+use Rattle.std.proofs.Common.{◌≡◌, ℕ, ◌+◌, ◌<◌, ◌≤◌, List, Option, Some, None, refl, ap, ◌∙◌, sym, subst, arith}
 use Rattle.std.specs.List.{slice_get}
 use Rattle.flux_trees.specs.Hedge.{Hedge, nil, elem, leaf, join, size}
 use Rattle.flux_trees.proofs.HedgeLaws.{size-join}
 use Rattle.flux_nodes.specs.declared.cell.NodeId.{NodeId}
 use Rattle.flux_nodes.specs.declared.cell.Cell.{Cell}
-use Rattle.flux_nodes.specs.Laid.{id, first_id, last_id, elem_cell, leaf_cell, IsLaid, edit, with_next, with_prev, with_first, with_last}
+use Rattle.flux_nodes.specs.Laid.{id, first_id, last_id, elem_cell, IsLaid, edit, with_next, with_prev, with_first, with_last}
 use Rattle.flux_nodes.specs.Seats.{Above, top, under, fill, parent_of, times_above, IsAbove, ahead, ahead_top, behind, behind_top, IsDoc}
 use Rattle.flux_nodes.proofs.LaidLaws.{one_if-same, edit-same, edit-other, kept, kept-edit, first_id-join, last_id-join, times-join, laid-join, join-laid, last_some, last_within, relink_next, relink_prev, first_within, first_id-any, last_id-any}
 

@@ -1,20 +1,19 @@
 -- What a table shows is what its cells hold.
 use Rattle.flux_nodes.specs.Tables.{one_if, times, times_in}
-use Rattle.std.proofs.Common.{◌≡◌, ◌≢◌, ◌⊎◌, inl, inr, ℕ, ◌+◌, ◌<◌, ◌≤◌, zero, suc, List, [], ◌∷◌, length, Bool, true, false, ◌&&◌, cond, eqb, Option, Some, None, refl, ap, ap₂, ◌∙◌, sym, subst, arith}
+use Rattle.std.proofs.Common.{◌≡◌, ◌⊎◌, inl, inr, ℕ, ◌+◌, ◌<◌, ◌≤◌, zero, suc, List, [], ◌∷◌, length, Bool, true, false, ◌&&◌, cond, Option, Some, None, refl, ap, ap₂, ◌∙◌, sym, subst, arith}
 use Rattle.std.proofs.lemmas.Bool.Decides.{nat_tests}
 use Rattle.std.specs.List.{slice_get, sum_by}
-use Rattle.std.proofs.Math.ListN.{set, get_or}
+use Rattle.std.proofs.Math.ListN.{get_or}
 use Rattle.std.proofs.lemmas.Option.{slice_get_within}
 use Rattle.std.proofs.lemmas.List.Sums.{sum_by-cons}
-use Rattle.flux_trees.specs.Hedge.{Hedge, nil, elem, leaf, join, size}
+use Rattle.flux_trees.specs.Hedge.{Hedge, nil, elem, leaf, size}
 use Rattle.flux_nodes.specs.declared.cell.NodeId.{NodeId}
 use Rattle.flux_nodes.specs.declared.cell.Cell.{Cell}
 use Rattle.flux_nodes.specs.Laid.{id, first_id, last_id, elem_cell, leaf_cell, IsLaid}
-use Rattle.flux_nodes.specs.Seats.{IsDoc}
 use Rattle.flux_nodes.specs.Tables.{Meaning}
-use Rattle.flux_nodes.specs.Decoded.{meaning_of, hedge_from, grow, runs_from, run_at, spare_from, next_in, is_none, is_id, is_kept, is_alone, begins}
-use Rattle.flux_nodes.specs.Kept.{IsTable, HoldsRun, IsSpare, spare_head, free_cell}
-use Rattle.flux_nodes.proofs.LaidLaws.{one_if-same, one_if-is, first_within, number_or}
+use Rattle.flux_nodes.specs.Decoded.{meaning_of, hedge_from, grow, runs_from, run_at, spare_from, next_in, is_none, is_id, is_alone}
+use Rattle.flux_nodes.specs.Kept.{IsTable, IsSpare, spare_head, free_cell}
+use Rattle.flux_nodes.proofs.LaidLaws.{one_if-is, first_within, number_or}
 use Rattle.flux_nodes.proofs.TableLaws.{get-or-sum}
 use Rattle.flux_nodes.proofs.MoveLaws.{apart}
 
@@ -46,7 +45,7 @@ and-false : (p : Option NodeId) → (is_none p && false) ≡ false
 and-false None = refl
 and-false (Some m) = refl
 
-split2 : (x y : ℕ) → 0 < x + y → (0 < x) ⊎ (0 < y)
+pub split2 : (x y : ℕ) → 0 < x + y → (0 < x) ⊎ (0 < y)
 split2 zero y h = inr (omega arith)
 split2 (suc x) y h = inl (omega arith)
 

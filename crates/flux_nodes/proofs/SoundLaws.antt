@@ -1,10 +1,10 @@
 -- Each number stands just once.
-use Rattle.std.proofs.Common.{◌≡◌, ◌⊎◌, inl, inr, ℕ, ◌+◌, ◌<◌, ◌≤◌, List, length, Option, Some, None, ap, sym, ◌∙◌, arith}
+use Rattle.std.proofs.Common.{inl, inr, List, Option, None, ap, sym, ◌∙◌, arith}
 use Rattle.std.proofs.Math.ListN.{get_or}
-use Rattle.flux_trees.specs.Hedge.{Hedge, nil}
+use Rattle.flux_trees.specs.Hedge.{nil}
 use Rattle.flux_nodes.specs.declared.cell.NodeId.{NodeId}
 use Rattle.flux_nodes.specs.declared.cell.Cell.{Cell}
-use Rattle.flux_nodes.specs.Tables.{Meaning, first_or, number_of, IsSound, times, times_in}
+use Rattle.flux_nodes.specs.Tables.{Meaning, first_or, number_of, IsSound}
 use Rattle.flux_nodes.specs.Kept.{IsTable}
 use Rattle.flux_nodes.proofs.MoveLaws.{none_past}
 use Rattle.flux_nodes.proofs.FrameLaws.{number-ids, first-ids}

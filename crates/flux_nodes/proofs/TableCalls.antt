@@ -1,30 +1,27 @@
 -- What the calls of a table have at hand.
-use Rattle.flux_nodes.specs.Tables.{times}
-use Rattle.std.proofs.Common.{◌≡◌, ◌⊎◌, inl, inr, ℕ, ◌+◌, ◌<◌, ◌≤◌, List, [], ◌∷◌, ◌++◌, length, take, drop, Option, Some, None, refl, ap, ap₂, ◌∙◌, sym, subst, arith}
-use Rattle.std.specs.List.{slice_get, sum_by}
+use Rattle.std.proofs.Common.{◌≡◌, inl, inr, ℕ, ◌<◌, List, ◌∷◌, ◌++◌, length, take, drop, Option, Some, None, refl, ap, ap₂, ◌∙◌, sym, subst, arith}
+use Rattle.std.specs.List.{slice_get}
 use Rattle.std.proofs.Math.ListN.{get_or}
 use Rattle.std.proofs.Math.Seq.{take-append_seam}
-use Rattle.flux_trees.specs.Hedge.{Hedge, nil, elem, leaf, join, first, others, content}
+use Rattle.flux_trees.specs.Hedge.{Hedge, nil, elem, leaf, first, others}
 use Rattle.flux_trees.specs.Frame.{Frame, Before, plug}
 use Rattle.flux_trees.specs.Edits.{last_or, parent_in, left_in, place_in}
 use Rattle.flux_trees.specs.Edits.{Place as TreePlace}
 use Rattle.flux_trees.proofs.HedgeLaws.{join-first}
 use Rattle.flux_nodes.specs.declared.cell.NodeId.{NodeId}
 use Rattle.flux_nodes.specs.declared.cell.Cell.{Cell}
-use Rattle.flux_nodes.specs.declared.cell.Kind.TheVariants.{Elem, Leaf}
+use Rattle.flux_nodes.specs.declared.cell.Kind.TheVariants.{Elem}
 use Rattle.flux_nodes.specs.declared.run.Run.{Run}
 use Rattle.flux_nodes.specs.declared.run.Place.{Place}
-use Rattle.flux_nodes.specs.Tables.{Meaning, made_in, number_of, tree_place, first_or, right_in, AreEnds, IsRunOf, RunAt, PlaceAt, ElementAt, NodeAt, IsHandedOut, IsCellOf, IsUnlinked, after_unlink, after_link, after_label}
+use Rattle.flux_nodes.specs.Tables.{Meaning, made_in, number_of, tree_place, first_or, right_in, IsRunOf, RunAt, PlaceAt, ElementAt, NodeAt, IsHandedOut, IsCellOf, IsUnlinked, after_unlink, after_link, after_label}
 use Rattle.flux_nodes.specs.Decoded.{meaning_of}
 use Rattle.flux_nodes.specs.Laid.{id, first_id, last_id, elem_cell, leaf_cell, IsLaid, edit, with_kind}
-use Rattle.flux_nodes.specs.Seats.{IsDoc, Seat, seated, parent_of}
+use Rattle.flux_nodes.specs.Seats.{IsDoc, Seat, parent_of}
 use Rattle.flux_nodes.specs.Kept.{IsTable, IsHeld, HasRun, HasPlace, seat_unlink, seat_link}
-use Rattle.flux_nodes.proofs.LaidLaws.{edit-length}
 use Rattle.flux_nodes.proofs.SeatLaws.{seat-split}
-use Rattle.flux_nodes.proofs.TableLaws.{laid-within}
 use Rattle.flux_nodes.proofs.SeenLaws.{seen, holds}
-use Rattle.flux_nodes.proofs.CallLaws.{table-run, unlinked-table, table-place, linked-table, labelled}
-use Rattle.flux_nodes.proofs.FrameLaws.{ids, number-ids, first-ids, last-ids, seat_of, plug-seat, parent-seat, left-seat, right-seat, run_seat, place_seat, element_seat, loose, unlink-frames, link-frames, label-frames}
+use Rattle.flux_nodes.proofs.CallLaws.{unlinked-table, linked-table, labelled}
+use Rattle.flux_nodes.proofs.FrameLaws.{number-ids, first-ids, last-ids, seat_of, plug-seat, parent-seat, left-seat, right-seat, run_seat, place_seat, element_seat, loose, unlink-frames, link-frames, label-frames}
 use Rattle.std.proofs.lemmas.Option.{slice_get_within, get_or_from_slice_get}
 
 -- the vector after a call on its cells holds what the call wrote

@@ -1,17 +1,17 @@
 use Rattle.flux_nodes.specs.Tables.{one_if, times, times_in}
-use Rattle.std.proofs.Common.{◌≡◌, ◌≢◌, ◌⊎◌, inl, inr, ℕ, ◌+◌, ◌<◌, ◌≤◌, zero, suc, List, [], ◌∷◌, length, Option, Some, None, refl, ap, ap₂, ◌∙◌, sym, subst, arith}
+use Rattle.std.proofs.Common.{◌≡◌, ◌≢◌, ◌⊎◌, inl, inr, ℕ, ◌+◌, ◌<◌, ◌≤◌, zero, suc, List, [], ◌∷◌, length, Option, Some, None, refl, ap, ◌∙◌, sym, subst, arith}
 use Rattle.std.specs.List.{slice_get, sum_by}
 use Rattle.std.proofs.Math.ListN.{set, get_or}
 use Rattle.std.proofs.lemmas.List.{get_or-set_other, get_or-set_same, length-set}
 use Rattle.std.proofs.lemmas.List.Sums.{sum_by-set, sum_by-cons}
 use Rattle.std.proofs.lemmas.Option.{slice_get_within}
-use Rattle.flux_trees.specs.Hedge.{Hedge, nil, elem, leaf, join, size}
+use Rattle.flux_trees.specs.Hedge.{Hedge, nil, elem, leaf, size}
 use Rattle.flux_nodes.specs.declared.cell.NodeId.{NodeId}
 use Rattle.flux_nodes.specs.declared.cell.Cell.{Cell}
-use Rattle.flux_nodes.specs.Laid.{id, first_id, last_id, elem_cell, leaf_cell, IsLaid, edit}
+use Rattle.flux_nodes.specs.Laid.{id, IsLaid}
 use Rattle.flux_nodes.specs.Seats.{IsDoc}
 use Rattle.flux_nodes.specs.Tables.{Meaning}
-use Rattle.flux_nodes.specs.Kept.{IsTable, HoldsRun, IsSpare, spare_head, free_cell}
+use Rattle.flux_nodes.specs.Kept.{IsTable, HoldsRun, IsSpare}
 use Rattle.flux_nodes.proofs.LaidLaws.{one_if-same, one_if-is, kept}
 
 pub get-or-sum : {X : Type 0} (f : X → ℕ) (d : X) → f d ≡ 0 → (xs : List X) (i : ℕ) → f (get_or xs i d) ≤ sum_by f xs

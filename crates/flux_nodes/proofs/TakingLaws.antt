@@ -1,21 +1,19 @@
 -- Numbers taken from the supply.
-use Rattle.flux_nodes.specs.Tables.{times_in}
-use Rattle.std.proofs.Common.{◌≡◌, ◌⊎◌, inl, inr, ℕ, ◌+◌, ◌-◌, ◌<◌, ◌≤◌, zero, suc, List, [], ◌∷◌, ◌++◌, length, drop, Option, Some, None, refl, ap, ap₂, ◌∙◌, sym, subst, arith, length-append, append_assoc}
+use Rattle.std.proofs.Common.{◌≡◌, ◌⊎◌, inl, inr, ℕ, ◌+◌, ◌-◌, ◌<◌, ◌≤◌, zero, suc, List, [], ◌∷◌, ◌++◌, length, drop, Option, Some, None, refl, ap, ◌∙◌, sym, subst, arith, length-append, append_assoc}
 use Rattle.std.specs.List.{slice_get}
-use Rattle.std.proofs.Common.{Result, Ok, Err}
+use Rattle.std.proofs.Common.{Result, Err}
 use Rattle.std.specs.Result.{IsOk}
-use Rattle.std.proofs.Math.ListN.{get_or, get_or-append}
+use Rattle.std.proofs.Math.ListN.{get_or-append}
 use Rattle.std.proofs.Math.Seq.{get_or-append_seam}
-use Rattle.std.proofs.lemmas.List.{append-nil, length-drop}
-use Rattle.flux_trees.specs.Edits.{Supply, preceded}
+use Rattle.std.proofs.lemmas.List.{append-nil}
+use Rattle.flux_trees.specs.Edits.{preceded}
 use Rattle.flux_nodes.specs.declared.cell.NodeId.{NodeId}
 use Rattle.flux_nodes.specs.declared.cell.Cell.{Cell}
 use Rattle.flux_nodes.specs.Tables.{copies}
 use Rattle.flux_nodes.specs.Laid.{id, numbers_of}
 use Rattle.flux_nodes.specs.Kept.{IsSpare, spare_head, free_cell, HasSpare, IsTaken, AreTaken}
-use Rattle.flux_nodes.proofs.LaidLaws.{number_or}
 use Rattle.flux_nodes.proofs.TableLaws.{spare-kept, spare-within}
-use Rattle.flux_nodes.proofs.SpareLaws.{spare-drop, drop-more, preceded-past, preceded-at, spare-first}
+use Rattle.flux_nodes.proofs.SpareLaws.{spare-drop, drop-more, preceded-past, preceded-at}
 
 pub slice_get-left : (cs xs : List Cell) (i : ℕ) → i < length cs → slice_get (cs ++ xs) i ≡ slice_get cs i
 slice_get-left [] xs i l = absurd (omega arith)

@@ -1,10 +1,9 @@
 -- Trees that are laid out in cells, node by node from the last to the first.
 use Rattle.flux_nodes.specs.Tables.{one_if, times}
-use Rattle.std.specs.Prelude.{◌≡◌, ℕ, ◌+◌, ◌<◌, ◌≤◌, zero, suc, length, List, [], ◌∷◌, Option, Some, None}
+use Rattle.std.specs.Prelude.{◌≡◌, ℕ, ◌+◌, ◌<◌, ◌≤◌, suc, length, List, Option, Some, None}
 use Rattle.std.specs.List.{slice_get}
-use Rattle.std.proofs.Math.ListN.{get_or}
 use Rattle.flux_trees.specs.Hedge.{Hedge, Plain, nil, elem, leaf, join, size, opened}
-use Rattle.flux_trees.specs.Edits.{Supply, beyond, number}
+use Rattle.flux_trees.specs.Edits.{beyond, number}
 use Rattle.flux_forest.specs.declared.node.Item.{Item}
 use Rattle.flux_forest.specs.declared.node.Item.TheVariants.{Element, Leaf as ItemLeaf}
 use Rattle.flux_forest.specs.declared.node.Node.{Node}

@@ -1,7 +1,7 @@
 -- Trees that are copied out of cells, by a walk along their links.
 use Rattle.std.specs.Prelude.{◌≡◌, ℕ, ◌+◌, ◌-◌, ◌*◌, ◌<◌, suc, length, List, Option, Some, None}
-use Rattle.flux_trees.specs.Hedge.{Hedge, Plain, nil, elem, join, size, erase}
-use Rattle.flux_trees.specs.Draft.{Draft, done, begun, depth}
+use Rattle.flux_trees.specs.Hedge.{Hedge, join, size, erase}
+use Rattle.flux_trees.specs.Draft.{done, begun, depth}
 use Rattle.flux_forest.specs.Flat.{PlainDraft}
 use Rattle.flux_nodes.specs.declared.cell.NodeId.{NodeId}
 use Rattle.flux_nodes.specs.declared.cell.Cell.{Cell}

@@ -1,9 +1,9 @@
 -- What the cells of a table keep, and what the calls on cells do.
-use Rattle.flux_nodes.specs.Tables.{one_if, times, times_in}
+use Rattle.flux_nodes.specs.Tables.{times, times_in}
 use Rattle.std.specs.Prelude.{◌≡◌, ◌⊎◌, ℕ, ◌+◌, ◌-◌, ◌<◌, ◌≤◌, length, drop, List, [], ◌∷◌, ◌++◌, cond, Option, Some, None}
 use Rattle.std.specs.List.{slice_get, sum_by}
 use Rattle.std.proofs.Math.ListN.{get_or, set}
-use Rattle.flux_trees.specs.Hedge.{Hedge, nil, elem, leaf, size}
+use Rattle.flux_trees.specs.Hedge.{Hedge, nil, elem, size}
 use Rattle.flux_nodes.specs.declared.cell.NodeId.{NodeId}
 use Rattle.flux_nodes.specs.declared.cell.Kind.TheVariants.{Free}
 use Rattle.flux_nodes.specs.declared.cell.Cell.{Cell}
@@ -155,6 +155,21 @@ pub record AreTaken (old new : List Cell) (ms : List ℕ) (f : Option NodeId) (n
   pub free_is : f ≡ spare_head (drop k ms)
   pub length_is : length numbers ≡ k
   pub numbers_are : (i : ℕ) → i < k → numbers_of numbers i ≡ preceded ms (λ j. length old + j) i
+
+-- the parent, or else the tree before
+abbrev pub before_at : Option NodeId → Option NodeId → Option NodeId
+before_at (Some p) v = Some p
+before_at None v = v
+
+abbrev pub IsBefore : Cell → Option NodeId → Type 0
+IsBefore c r = r ≡ before_at c.parent c.prev
+
+-- the node is one of these trees, which are linked to no parent
+pub record IsAmong (cells : List Cell) (node : ℕ) : Type 0 where
+  pub trees : Hedge ℕ
+  pub laid : IsLaid cells None None trees None
+  pub here : 0 < times node trees
+  pub fits : size trees ≤ length cells
 
 -- what the fields of a table keep
 pub record IsHeld (cells : List Cell) (t e f : Option NodeId) (made : ℕ) : Type 0 where

@@ -1,15 +1,15 @@
 -- Cells that are the nodes of a numbered forest.
 use Rattle.flux_nodes.specs.Tables.{times}
-use Rattle.std.specs.Prelude.{◌≡◌, ℕ, ◌+◌, ◌≤◌, length, List, [], ◌∷◌, Bool, cond, eqb, Option, Some, None}
+use Rattle.std.specs.Prelude.{◌≡◌, ℕ, ◌≤◌, length, List, [], ◌∷◌, Option, Some, None}
 use Rattle.std.proofs.Common.{zero, suc}
 use Rattle.std.specs.List.{slice_get}
 use Rattle.std.proofs.Math.ListN.{get_or}
 use Rattle.flux_trees.specs.Edits.{Supply}
 use Rattle.flux_atom.specs.declared.atom.Atom.{Atom}
-use Rattle.flux_trees.specs.Hedge.{Hedge, nil, elem, leaf, join, size}
+use Rattle.flux_trees.specs.Hedge.{Hedge, nil, elem, leaf, size}
 use Rattle.flux_nodes.specs.declared.cell.NodeId.{NodeId}
 use Rattle.flux_nodes.specs.declared.cell.Kind.{Kind}
-use Rattle.flux_nodes.specs.declared.cell.Kind.TheVariants.{Elem, Leaf, Free}
+use Rattle.flux_nodes.specs.declared.cell.Kind.TheVariants.{Elem, Leaf}
 use Rattle.flux_nodes.specs.declared.cell.Cell.{Cell}
 use Rattle.flux_nodes.specs.declared.run.Run.{Run}
 

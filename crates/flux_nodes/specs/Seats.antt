@@ -2,7 +2,7 @@
 use Rattle.flux_nodes.specs.Tables.{one_if, times}
 use Rattle.std.specs.Prelude.{◌≡◌, ℕ, ◌+◌, List, Option, Some, None}
 use Rattle.std.specs.List.{slice_get}
-use Rattle.flux_trees.specs.Hedge.{Hedge, nil, elem, leaf, join}
+use Rattle.flux_trees.specs.Hedge.{Hedge, elem, join}
 use Rattle.flux_nodes.specs.declared.cell.NodeId.{NodeId}
 use Rattle.flux_nodes.specs.declared.cell.Cell.{Cell}
 use Rattle.flux_nodes.specs.Laid.{id, first_id, last_id, elem_cell, IsLaid, edit, with_next, with_prev, with_first, with_last}

@@ -1,7 +1,7 @@
 // Cells that are linked by their numbers.
-ghost use Rattle.std.specs.Prelude.{◌≡◌, ◌<◌, length, slice_get, Some, IfOk};
+ghost use Rattle.std.specs.Prelude.{◌≡◌, ◌<◌, length, slice_get, ◌↔◌, Some, IsTrue, IfOk};
 ghost use Rattle.std.proofs.Math.ListN.{get_or};
-ghost use Rattle.flux_nodes.specs.declared.cell.Kind.TheVariants.{Elem};
+ghost use Rattle.flux_nodes.specs.declared.cell.Kind.TheVariants.{Elem, Free};
 ghost use Rattle.flux_nodes.specs.declared.cell.Cell.{Cell};
 ghost use Rattle.flux_nodes.specs.Laid.{
   edit,
@@ -68,6 +68,16 @@ impl Cell {
         })
     }
 
+    pub(crate) fn is_free(&self) -> bool
+        ensures { IsTrue result ↔ (self.now.kind ≡ Free) }
+    {
+        match &self.kind {
+            Kind::Elem(_) => false,
+            Kind::Leaf(_) => false,
+            Kind::Free => true,
+        }
+    }
+
     // A free cell, and the free cell after it.
     pub(crate) fn free(next: Option<NodeId>) -> Cell
         ensures { result ≡ free_cell next }
@@ -80,6 +90,16 @@ impl Cell {
             first: None,
             last: None,
         }
+    }
+}
+
+// Whether a link leads to this node.
+pub(crate) fn is_to(link: Option<NodeId>, node: NodeId) -> bool
+    ensures { IsTrue result ↔ (link ≡ Some node) }
+{
+    match link {
+        Some(there) => there.0 == node.0,
+        None => false,
     }
 }
 

@@ -7,6 +7,7 @@ mod copying;
 mod freeing;
 mod links;
 mod parents;
+mod root;
 mod run;
 mod table;
 mod taking;

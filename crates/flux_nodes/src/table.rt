@@ -1,5 +1,5 @@
 // A document as a table of linked nodes.
-ghost use Rattle.std.specs.Prelude.{◌≡◌, ◌<◌, ◌^◌, ℕ, IfOk, OnErr};
+ghost use Rattle.std.specs.Prelude.{◌≡◌, ◌<◌, ◌^◌, ◌↔◌, ℕ, IsTrue, IfOk, OnErr};
 ghost use Rattle.std.proofs.Math.ListN.{get_or};
 ghost use Rattle.flux_trees.specs.Hedge.{nil, erase};
 ghost use Rattle.flux_trees.specs.Draft.{done};
@@ -20,6 +20,7 @@ ghost use Rattle.flux_nodes.specs.Tables.{
   made_in,
   supply,
   tree_place,
+  times,
   empty,
   after_unlink,
   after_link,
@@ -29,10 +30,11 @@ ghost use Rattle.flux_nodes.specs.Tables.{
 };
 
 use crate::build::build;
-use crate::cell::{Cell, NodeId, copy_cells, put_label};
+use crate::cell::{Cell, NodeId, copy_cells, is_to, put_label};
 use crate::copying::copy_trees;
 use crate::freeing::{free_run, nth_free};
 use crate::links::{link, unlink};
+use crate::root::root_of;
 use crate::run::{Place, Run, run_to};
 use crate::taking::take_numbers;
 use flux_atom::Name;
@@ -112,6 +114,20 @@ impl Table {
             IsCellOf result.now at.frames at.tree }
     {
         &self.cells[node.0 as usize]
+    }
+
+    /// Whether the node is in the document. It takes as many steps as there are elements around
+    /// the node and trees before the outermost of them.
+    pub fn holds(&self, node: NodeId) -> bool
+        ensures { IsTrue result ↔ 0 < times node.0 self.now.document }
+    {
+        if node.0 >= self.cells.len() as u64 {
+            return false;
+        }
+        if self.cells[node.0 as usize].is_free() {
+            return false;
+        }
+        is_to(self.top, root_of(self.cells.as_slice(), node))
     }
 
     /// The trees of the document.

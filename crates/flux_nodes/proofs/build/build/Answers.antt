@@ -1,4 +1,4 @@
-use Rattle.std.proofs.Common.{◌++◌, ap, arith, sym, ◌∙◌}
+use Rattle.std.proofs.Common.{◌++◌, ap, arith, ◌∙◌}
 use Rattle.std.specs.Option.{option_to_list}
 use Rattle.flux_nodes.proofs.BuildingLaws.{build-start, build-node, build-next, build-end, popped-none}
 use Rattle.flux_nodes.proofs.build.build.Goals as goal

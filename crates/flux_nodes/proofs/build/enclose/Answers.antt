@@ -1,7 +1,6 @@
-use Rattle.std.proofs.Common.{arith, sym, subst, ◌∙◌, ◌≡◌, Some, length}
-use Rattle.flux_nodes.specs.Built.{IsEnclosed}
+use Rattle.std.proofs.Common.{arith, sym, ◌∙◌}
 use Rattle.flux_nodes.proofs.CallLaws.{last-within}
-use Rattle.flux_nodes.proofs.EncloseLaws.{behind-within, last-found, last-there, inside_run, enclosed, nothing-enclosed}
+use Rattle.flux_nodes.proofs.EncloseLaws.{behind-within, last-found, last-there, inside_run, enclosed}
 use Rattle.flux_nodes.proofs.build.enclose.Goals as goal
 
 pub last_before-requires : goal.last_before-requires

@@ -1,8 +1,7 @@
-use Rattle.std.proofs.Common.{ap, arith, slice_index_or, ◌∙◌, ◌+◌, None, Some}
-use Rattle.flux_nodes.specs.declared.cell.Cell.{Cell}
-use Rattle.flux_nodes.specs.Laid.{id, edit}
-use Rattle.flux_nodes.specs.Seats.{behind, behind_top}
-use Rattle.flux_nodes.proofs.BuildLaws.{are_numbers, node-trees, node-fits, put-node, cell_with, built-as}
+use Rattle.std.proofs.Common.{ap, slice_index_or, ◌∙◌, None, Some}
+use Rattle.flux_nodes.specs.Laid.{id}
+use Rattle.flux_nodes.specs.Seats.{behind}
+use Rattle.flux_nodes.proofs.BuildLaws.{are_numbers, node-trees, node-fits, put-node, built-as}
 use Rattle.flux_nodes.proofs.build.put_node.Goals as goal
 
 pub first_inside-first-requires : goal.first_inside-first-requires

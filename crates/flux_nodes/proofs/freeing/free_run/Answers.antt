@@ -1,4 +1,4 @@
-use Rattle.std.proofs.Common.{ap, arith, ◌-◌, length, refl, subst, sym, ◌≡◌, ◌<◌, ◌∙◌, Some}
+use Rattle.std.proofs.Common.{arith, ◌-◌, length, subst, sym, ◌∙◌, Some}
 use Rattle.std.specs.List.{slice_get}
 use Rattle.std.proofs.lemmas.Option.{slice_get_within}
 use Rattle.flux_nodes.specs.declared.cell.Cell.{Cell}

@@ -1,5 +1,5 @@
-use Rattle.std.proofs.Common.{ap, arith, length, refl, ◌≡◌, ◌∙◌, Some}
-use Rattle.flux_nodes.specs.Laid.{edit, with_prev, with_next}
+use Rattle.std.proofs.Common.{ap, arith, length, refl, ◌∙◌, Some}
+use Rattle.flux_nodes.specs.Laid.{edit, with_next}
 use Rattle.flux_nodes.specs.Seats.{ahead, behind}
 use Rattle.flux_nodes.proofs.CallLaws.{loose_of, first-within, last-within, place-parent-in, place-after-in, place-next-in, linked}
 use Rattle.flux_nodes.proofs.links.link.Goals as goal

@@ -1,8 +1,6 @@
-use Rattle.std.proofs.Common.{ap, arith, length, ◌≡◌, ◌∙◌, None}
-use Rattle.flux_nodes.specs.Laid.{edit, with_prev, with_next}
+use Rattle.std.proofs.Common.{ap, arith, length, ◌∙◌, None}
+use Rattle.flux_nodes.specs.Laid.{edit, with_next}
 use Rattle.flux_nodes.specs.Seats.{ahead, behind}
-use Rattle.flux_nodes.proofs.LaidLaws.{edit-length}
-use Rattle.flux_nodes.proofs.MoveLaws.{length-ahead}
 use Rattle.flux_nodes.proofs.CallLaws.{run_of, first-within, last-within, parent-in, prev-in, next-in, unlinked}
 use Rattle.flux_nodes.proofs.links.unlink.Goals as goal
 

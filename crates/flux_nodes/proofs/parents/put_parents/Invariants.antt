@@ -1,5 +1,4 @@
-use Rattle.std.proofs.Common.{◌≡◌, ℕ, ◌<◌, length}
-use Rattle.flux_nodes.specs.Laid.{RunLaid, IsUnder}
+use Rattle.std.proofs.Common.{◌≡◌, length}
 use Rattle.flux_nodes.proofs.RunLaws.{PassedAll}
 use Rattle.flux_nodes.proofs.parents.put_parents.Given as goal
 

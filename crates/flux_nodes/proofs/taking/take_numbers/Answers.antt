@@ -1,5 +1,5 @@
-use Rattle.std.proofs.Common.{arith, subst, sym, ◌≡◌, ◌≤◌, ◌∙◌}
-use Rattle.flux_nodes.specs.Kept.{HasSpare, AreTaken}
+use Rattle.std.proofs.Common.{arith, subst, ◌≡◌}
+use Rattle.flux_nodes.specs.Kept.{AreTaken}
 use Rattle.flux_nodes.proofs.TakingLaws.{err-not_ok, taken-spare, taken-turn, taken-room, taken-length}
 use Rattle.flux_nodes.proofs.taking.take_numbers.Goals as goal
 

@@ -1,10 +1,8 @@
-use Rattle.std.proofs.Common.{arith, ap, sym, subst, length, Some, slice_index_or, ◌≡◌, ◌+◌, ◌<◌, ◌∙◌}
-use Rattle.flux_trees.specs.Hedge.{nil, size}
+use Rattle.std.proofs.Common.{arith, ap, sym, subst, ◌+◌, ◌∙◌}
 use Rattle.flux_forest.specs.View.{forest_of}
 use Rattle.flux_trees.specs.Edits.{number}
 use Rattle.flux_nodes.specs.Tables.{IsNewRun, supply}
 use Rattle.flux_nodes.specs.Decoded.{meaning_of}
-use Rattle.flux_nodes.specs.Laid.{id, numbers_of}
 use Rattle.flux_nodes.specs.Kept.{IsHeld}
 use Rattle.flux_nodes.specs.Built.{CanBuild}
 use Rattle.flux_nodes.proofs.SeenLaws.{seen}

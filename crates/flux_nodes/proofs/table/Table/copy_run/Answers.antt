@@ -1,5 +1,4 @@
-use Rattle.std.proofs.Common.{◌⊎◌, inl, inr}
-use Rattle.flux_nodes.specs.Laid.{RunLaid}
+use Rattle.std.proofs.Common.{inl, inr}
 use Rattle.flux_nodes.proofs.TableCalls.{table_of}
 use Rattle.flux_nodes.proofs.PartLaws.{document_part, unlinked_part, document-copied, unlinked-copied}
 use Rattle.flux_nodes.proofs.table.Table.copy_run.Goals as goal

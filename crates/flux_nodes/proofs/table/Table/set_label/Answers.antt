@@ -1,10 +1,9 @@
-use Rattle.std.proofs.Common.{ap, arith, length, refl, sym, subst, ◌≡◌, ◌<◌, ◌∙◌}
+use Rattle.std.proofs.Common.{ap, arith, length, refl, sym, subst, ◌<◌, ◌∙◌}
 use Rattle.flux_nodes.specs.declared.cell.Kind.TheVariants.{Elem}
 use Rattle.flux_nodes.specs.Tables.{ElementAt, after_label}
 use Rattle.flux_nodes.specs.Decoded.{meaning_of}
 use Rattle.flux_nodes.specs.Laid.{edit, with_kind}
 use Rattle.flux_nodes.specs.Kept.{IsTable, IsHeld}
-use Rattle.flux_nodes.proofs.LaidLaws.{edit-length}
 use Rattle.flux_nodes.proofs.SeenLaws.{seen}
 use Rattle.flux_nodes.proofs.CallLaws.{label-within}
 use Rattle.flux_nodes.proofs.FrameLaws.{element_seat}

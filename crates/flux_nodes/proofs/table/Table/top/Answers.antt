@@ -1,4 +1,4 @@
-use Rattle.std.proofs.Common.{sym, subst, ◌∙◌, None, ◌≡◌}
+use Rattle.std.proofs.Common.{sym, subst, ◌∙◌}
 use Rattle.flux_nodes.specs.Tables.{IsRunOf}
 use Rattle.flux_nodes.proofs.TableCalls.{table_of, no_last-nil, run-of-top}
 use Rattle.flux_nodes.proofs.table.Table.top.Goals as goal

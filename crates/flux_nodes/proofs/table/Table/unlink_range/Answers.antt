@@ -1,4 +1,4 @@
-use Rattle.std.proofs.Common.{ap, arith, length, refl, sym, subst, ◌≡◌, ◌∙◌}
+use Rattle.std.proofs.Common.{ap, arith, length, refl, sym, subst, ◌∙◌}
 use Rattle.flux_nodes.specs.Tables.{RunAt, after_unlink}
 use Rattle.flux_nodes.specs.Decoded.{meaning_of}
 use Rattle.flux_nodes.specs.Kept.{IsTable, IsHeld}
