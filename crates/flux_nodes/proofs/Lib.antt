@@ -20,3 +20,4 @@ pub mod SoundLaws
 pub mod CopyLaws
 pub mod PartLaws
 pub mod RootLaws
+pub mod NodeLaws
