@@ -96,3 +96,6 @@ preceded-more (m ∷ ms) s (suc k) i =
     let e : suc k + i ≡ suc (k + i) = omega arith in
     let d : k - length ms ≡ suc k - suc (length ms) = omega arith in
     ap (preceded (m ∷ ms) s) e ∙ preceded-more ms s k i ∙ ap (λ j. preceded (drop k ms) (beyond j s) i) d
+
+pub same_run : (f l : NodeId) (run : Run) → Some (record { first = f; last = l }) ≡ Some run → record { first = f; last = l } ≡ run
+same_run f l run e = cc

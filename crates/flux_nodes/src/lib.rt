@@ -15,3 +15,6 @@ mod taking;
 pub use cell::{Cell, Kind, NodeId};
 pub use run::{Place, Run};
 pub use table::Table;
+
+#[cfg(test)]
+mod tests;
