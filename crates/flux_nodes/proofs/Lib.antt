@@ -21,3 +21,4 @@ pub mod CopyLaws
 pub mod PartLaws
 pub mod RootLaws
 pub mod NodeLaws
+pub mod SupplyLaws

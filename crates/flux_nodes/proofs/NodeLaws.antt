@@ -1,19 +1,16 @@
 -- What callers of a table have at hand: runs and nodes that follow from others, and the numbers to
 -- come after each call.
-use Rattle.std.proofs.Common.{◌≡◌, ◌⊎◌, inl, inr, ℕ, ◌+◌, ◌-◌, ◌<◌, ◌≤◌, zero, suc, List, [], ◌∷◌, ◌++◌, length, drop, Option, Some, None, refl, ap, ◌∙◌, sym, subst, arith}
-use Rattle.std.specs.List.{sum_by}
-use Rattle.std.proofs.Math.ListN.{set, get_or}
-use Rattle.std.proofs.lemmas.List.{get_or-set_same, length-set}
-use Rattle.flux_trees.specs.Hedge.{Hedge, Plain, nil, elem, leaf, size, content, others, notes}
-use Rattle.flux_trees.specs.Frame.{Frame, Down, plug}
-use Rattle.flux_trees.specs.Edits.{Supply, preceded, beyond, number, last_or}
+use Rattle.std.proofs.Common.{◌≡◌, inl, inr, ℕ, ◌+◌, ◌-◌, ◌<◌, zero, suc, List, [], ◌∷◌, length, drop, Option, Some, None, refl, ap, ◌∙◌, sym, subst, arith}
+use Rattle.std.proofs.lemmas.List.{get_or-set_same}
+use Rattle.flux_trees.specs.Hedge.{Hedge, Plain, nil, elem, leaf, content, others}
+use Rattle.flux_trees.specs.Frame.{Down, plug}
+use Rattle.flux_trees.specs.Edits.{Supply, preceded, beyond, last_or}
 use Rattle.flux_nodes.specs.declared.cell.NodeId.{NodeId}
 use Rattle.flux_nodes.specs.declared.cell.Kind.{Kind}
 use Rattle.flux_nodes.specs.declared.cell.Kind.TheVariants.{Elem, Leaf}
 use Rattle.flux_nodes.specs.declared.cell.Cell.{Cell}
 use Rattle.flux_nodes.specs.declared.run.Run.{Run}
-use Rattle.flux_nodes.specs.declared.run.Place.{Place}
-use Rattle.flux_nodes.specs.Tables.{Meaning, empty, supply, number_of, first_or, AreEnds, IsRunOf, RunAt, PlaceAt, NodeAt, ElementAt, IsKindOf, IsCellOf, IsUnlinked, IsNewRun, IsSound, trees_at, times, after_unlink, after_add, after_free, with_trees}
+use Rattle.flux_nodes.specs.Tables.{Meaning, number_of, first_or, AreEnds, RunAt, PlaceAt, NodeAt, ElementAt, IsKindOf, IsCellOf, IsUnlinked, IsNewRun, IsSound, trees_at, times, after_unlink, after_add}
 use Rattle.flux_nodes.proofs.LaidLaws.{first_within}
 use Rattle.flux_nodes.proofs.MoveLaws.{below_or_not}
 use Rattle.flux_nodes.proofs.SeatLaws.{times-seated}
@@ -77,7 +74,7 @@ add-document m nil = refl
 add-document m (elem n a c r) = refl
 add-document m (leaf n x r) = refl
 
-preceded-more : (ms : List ℕ) (s : Supply) (k i : ℕ) → preceded ms s (k + i) ≡ preceded (drop k ms) (beyond (k - length ms) s) i
+pub preceded-more : (ms : List ℕ) (s : Supply) (k i : ℕ) → preceded ms s (k + i) ≡ preceded (drop k ms) (beyond (k - length ms) s) i
 preceded-more ms s zero i = here ms i
   where
     here : (ms : List ℕ) (i : ℕ) → preceded ms s (0 + i) ≡ preceded ms (beyond (0 - length ms) s) i

@@ -203,9 +203,20 @@ abbrev pub times_all : ℕ → Meaning → ℕ
 times_all k m = times k m.document + (sum_by (times k) m.unlinked + times_in k m.spare)
 
 -- each number that was ever used stands just once, in the document, in an unlinked run or among the
--- free ones, and no other stands anywhere; an unlinked run is listed at the number of its first tree
+-- free ones, and no other stands anywhere; so many were used as there are nodes and free numbers; an
+-- unlinked run is listed at the number of its first tree
 pub record IsSound (m : Meaning) : Type 0 where
   pub once : (k : ℕ) → k < length m.unlinked → times_all k m ≡ 1
   pub none : (k : ℕ) → length m.unlinked ≤ k → times_all k m ≡ 0
+  pub counted : made_in m + length m.spare ≡ length m.unlinked
   pub listed : (i : ℕ) →
       (get_or m.unlinked i nil ≡ nil) ⊎ (first_or None (get_or m.unlinked i nil) ≡ Some i)
+
+-- new nodes that are freed, where no others were made or freed since, give back the numbers that
+-- were to come before
+abbrev pub FreeingTakesBack : Type 0
+FreeingTakesBack =
+    (m n : Meaning) (v : Plain) (run : Run) →
+    n.spare ≡ (after_add m v).spare → length n.unlinked ≡ length (after_add m v).unlinked →
+    notes (trees_at n run) ≡ notes (number v (supply m)) →
+    (i : ℕ) → supply (after_free n run) i ≡ supply m i

@@ -5,6 +5,7 @@ mod build;
 mod cell;
 mod copying;
 mod freeing;
+mod laws;
 mod links;
 mod parents;
 mod root;
@@ -13,6 +14,7 @@ mod table;
 mod taking;
 
 pub use cell::{Cell, Kind, NodeId};
+pub use laws::freeing_takes_back;
 pub use run::{Place, Run};
 pub use table::Table;
 

@@ -21,7 +21,8 @@ pub struct Place {
 
 // The run to the last tree, if there is one.
 pub(crate) fn run_to(first: NodeId, last: Option<NodeId>) -> Option<Run>
-    ensures some { (l : NodeId) → last ≡ Some l → result ≡ Some (record { first = first; last = l }) }
+    ensures some { (l : NodeId) → last ≡ Some l →
+        result ≡ Some (record { first = first; last = l }) }
     ensures none { last ≡ None → result ≡ None }
 {
     match last {

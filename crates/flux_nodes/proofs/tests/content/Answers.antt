@@ -1,5 +1,4 @@
-use Rattle.std.proofs.Common.{◌≡◌, Some, inl, subst}
-use Rattle.flux_nodes.specs.declared.run.Run.{Run}
+use Rattle.std.proofs.Common.{inl, subst}
 use Rattle.flux_nodes.specs.Tables.{RunAt}
 use Rattle.flux_nodes.proofs.TableCalls.{first_node}
 use Rattle.flux_nodes.proofs.NodeLaws.{whole_run, content-run, same_run}

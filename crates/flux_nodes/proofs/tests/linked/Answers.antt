@@ -1,8 +1,7 @@
 use Rattle.std.proofs.Common.{ap, ◌∙◌}
-use Rattle.flux_trees.specs.Edits.{number}
 use Rattle.flux_forest.specs.View.{forest_of}
-use Rattle.flux_nodes.specs.Tables.{Meaning, supply}
-use Rattle.flux_nodes.proofs.NodeLaws.{empty_place, add-document, new-run}
+use Rattle.flux_nodes.specs.Tables.{Meaning}
+use Rattle.flux_nodes.proofs.NodeLaws.{empty_place, add-document}
 use Rattle.flux_nodes.proofs.tests.linked.Goals as goal
 
 pub link_range-requires-clause-place : goal.link_range-requires-clause-place
