@@ -48,5 +48,6 @@ pub record HasWalk (cells : List Cell) (walk : Walk) (d : PlainDraft) : Type 0 w
 -- the walk went on by a step
 pub record WentOn (cells : List Cell) (walk next : Walk) (old new : PlainDraft) : Type 0 where
   pub same_run : next.run ≡ walk.run
-  pub walk_is : (r : RunLaid cells walk.run) → IsWalk walk r.trees r.parent old → IsWalk next r.trees r.parent new
+  pub walk_is : (r : RunLaid cells walk.run) →
+      IsWalk walk r.trees r.parent old → IsWalk next r.trees r.parent new
   pub fewer : steps_to (length cells) new < steps_to (length cells) old

@@ -40,7 +40,8 @@ pub record IsTable (cells : List Cell) (t e f : Option NodeId) (m : Meaning) : T
   pub runs : (i : ℕ) → HoldsRun cells i (get_or m.unlinked i nil)
   pub spare : IsSpare cells m.spare
   pub spare_is : f ≡ spare_head m.spare
-  pub once : (k : ℕ) → k < length cells → times k m.document + (sum_by (times k) m.unlinked + times_in k m.spare) ≡ 1
+  pub once : (k : ℕ) → k < length cells →
+      times k m.document + (sum_by (times k) m.unlinked + times_in k m.spare) ≡ 1
   pub all : size m.document + (sum_by size m.unlinked + length m.spare) ≡ length cells
 
 -- a run of neighbouring siblings in a document
@@ -136,7 +137,8 @@ freed cs m w f b = edit (λ _. free_cell (going_on b f w)) m (spliced cs b w)
 -- what freeing a node does, where its content is to be freed next
 abbrev pub IsFreed : List Cell → List Cell → ℕ → Option NodeId → Type 0
 IsFreed cs bs m on =
-    (c : Cell) → slice_get cs m ≡ Some c → (bs ≡ freed cs m c.next c.first c.last) × (on ≡ going_on c.last c.first c.next)
+    (c : Cell) → slice_get cs m ≡ Some c →
+    (bs ≡ freed cs m c.next c.first c.last) × (on ≡ going_on c.last c.first c.next)
 
 -- the free list
 pub record HasSpare (cells : List Cell) (f : Option NodeId) : Type 0 where

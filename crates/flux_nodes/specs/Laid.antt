@@ -40,7 +40,8 @@ leaf_cell x p v w =
 abbrev pub IsLaid : List Cell → Option NodeId → Option NodeId → Hedge ℕ → Option NodeId → Type 0
 IsLaid cells p v nil w = Unit {0}
 IsLaid cells p v (elem m a c r) w =
-    (slice_get cells m ≡ Some (elem_cell a p v (first_id r w) (first_id c None) (last_id c None))) × IsLaid cells (Some (id m)) None c None × IsLaid cells p (Some (id m)) r w
+    (slice_get cells m ≡ Some (elem_cell a p v (first_id r w) (first_id c None) (last_id c None))) ×
+    IsLaid cells (Some (id m)) None c None × IsLaid cells p (Some (id m)) r w
 IsLaid cells p v (leaf m x r) w =
     (slice_get cells m ≡ Some (leaf_cell x p v (first_id r w))) × IsLaid cells p (Some (id m)) r w
 

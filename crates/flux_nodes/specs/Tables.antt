@@ -22,6 +22,7 @@ pub record Meaning : Type 0 where
   pub unlinked : List (Hedge ℕ)
   pub spare : List ℕ
 
+-- its code
 abbrev pub meaning_code : Coded Meaning
 meaning_code =
     code_by (Hedge ℕ × (List (Hedge ℕ) × List ℕ))
@@ -47,6 +48,7 @@ abbrev pub number_of : Option NodeId → Option ℕ
 number_of None = None
 number_of (Some node) = Some node.0
 
+-- a place of the code, as a place in a forest
 abbrev pub tree_place : Place → TreePlace
 tree_place p = record { parent = number_of p.parent; left = number_of p.after }
 
@@ -69,6 +71,7 @@ pub record AreEnds (run : Run) (trees : Hedge ℕ) : Type 0 where
   pub first_is : first_or None trees ≡ Some run.first.0
   pub last_is : last_or None trees ≡ Some run.last.0
 
+-- a run of these trees, or none where there are none
 abbrev pub IsRunOf : Option Run → Hedge ℕ → Type 0
 IsRunOf None h = h ≡ nil
 IsRunOf (Some run) h = AreEnds run h
@@ -109,6 +112,7 @@ pub record NodeAt (h : Hedge ℕ) (node : NodeId) : Type 0 where
 abbrev pub IsHandedOut : Meaning → NodeId → Type 0
 IsHandedOut m node = NodeAt m.document node ⊎ ((i : ℕ) × NodeAt (get_or m.unlinked i nil) node)
 
+-- what stands at the first node: an element's label, or an atom
 abbrev pub IsKindOf : Kind → Hedge ℕ → Type 0
 IsKindOf k nil = ⊥
 IsKindOf k (elem m a c r) = k ≡ Elem a
@@ -136,6 +140,7 @@ IsNewRun (Some run) m h = AreEnds run h × (trees_at m run ≡ h)
 abbrev pub IsUnlinked : Meaning → Run → Type 0
 IsUnlinked m run = AreEnds run (trees_at m run)
 
+-- the run's trees go from the document to the unlinked runs
 abbrev pub after_unlink : Meaning → Run → List (Frame ℕ) → Hedge ℕ → Meaning
 after_unlink m run fs trees = record {
   document = plug fs nil;
@@ -143,6 +148,7 @@ after_unlink m run fs trees = record {
   spare = m.spare;
 }
 
+-- the unlinked run's trees go into the document
 abbrev pub after_link : Meaning → Run → List (Frame ℕ) → Meaning
 after_link m run fs = record {
   document = plug fs (trees_at m run);
@@ -150,6 +156,7 @@ after_link m run fs = record {
   spare = m.spare;
 }
 
+-- the element has another label
 abbrev pub after_label : Meaning → NodeId → ℕ → List (Frame ℕ) → Hedge ℕ → Meaning
 after_label m node name fs inside = record {
   document = plug fs (elem node.0 name inside nil);
@@ -157,6 +164,7 @@ after_label m node name fs inside = record {
   spare = m.spare;
 }
 
+-- the numbers of the unlinked run are free, and are the next to be used, in document order
 abbrev pub after_free : Meaning → Run → Meaning
 after_free m run = record {
   document = m.document;
@@ -179,6 +187,7 @@ with_trees m v = record {
   spare = drop (size v) m.spare;
 }
 
+-- nothing changes where there are no trees
 abbrev pub after_add : Meaning → Plain → Meaning
 after_add m nil = m
 after_add m (elem n a c r) = with_trees m (elem n a c r)
@@ -194,6 +203,7 @@ times k nil = 0
 times k (elem m a c r) = one_if k m + (times k c + times k r)
 times k (leaf m x r) = one_if k m + times k r
 
+-- the same in a list
 abbrev pub times_in : ℕ → List ℕ → ℕ
 times_in k [] = 0
 times_in k (m ∷ ms) = one_if k m + times_in k ms
@@ -203,8 +213,8 @@ abbrev pub times_all : ℕ → Meaning → ℕ
 times_all k m = times k m.document + (sum_by (times k) m.unlinked + times_in k m.spare)
 
 -- each number that was ever used stands just once, in the document, in an unlinked run or among the
--- free ones, and no other stands anywhere; so many were used as there are nodes and free numbers; an
--- unlinked run is listed at the number of its first tree
+-- free ones, and no other stands anywhere; so many were used as there are nodes and free numbers;
+-- an unlinked run is listed at the number of its first tree
 pub record IsSound (m : Meaning) : Type 0 where
   pub once : (k : ℕ) → k < length m.unlinked → times_all k m ≡ 1
   pub none : (k : ℕ) → length m.unlinked ≤ k → times_all k m ≡ 0

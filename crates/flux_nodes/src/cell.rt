@@ -41,6 +41,8 @@ pub struct Cell {
     pub last: Option<NodeId>,
 }
 
+const _: () = prove!(std::mem::size_of::<Cell>() <= 128);
+
 impl Kind {
     fn copy(&self, alloc: Global) -> Result<Kind, AllocError>
         ensures { IfOk result (λ copied. copied ≡ self.now) }
