@@ -32,7 +32,8 @@ pub record IsBuilt (old new : List Cell) (h : Hedge ℕ) (last : Option NodeId) 
   pub others : (k : ℕ) → times k h ≡ 0 → slice_get new k ≡ slice_get old k
 
 -- trees that are laid out, of which the first ones are to be put into a parent
-pub record HasTrees (cells : List Cell) (first after last : Option NodeId) (parent : ℕ) : Type 0 where
+pub record HasTrees (cells : List Cell) (first after last : Option NodeId) (parent : ℕ)
+    : Type 0 where
   pub inside : Hedge ℕ
   pub rest : Hedge ℕ
   pub laid : IsLaid cells None None (join inside rest) None
@@ -42,7 +43,8 @@ pub record HasTrees (cells : List Cell) (first after last : Option NodeId) (pare
   pub once : (k : ℕ) → one_if k parent + (times k inside + times k rest) ≤ 1
   pub fits : size inside ≤ length cells
 
-pub record IsEnclosed (old new : List Cell) (inside rest : Hedge ℕ) (parent : ℕ) (last : Option NodeId) : Type 0 where
+pub record IsEnclosed (old new : List Cell) (inside rest : Hedge ℕ) (parent : ℕ)
+    (last : Option NodeId) : Type 0 where
   pub laid : IsLaid new (Some (id parent)) None inside None
   pub prev : Option NodeId
   pub behind : IsLaid new None prev rest None
@@ -55,10 +57,12 @@ IsLastBefore cells (Some after) last r = (c : Cell) → slice_get cells after.0 
 IsLastBefore cells None last r = r ≡ last
 
 -- a node that is to be put before the trees behind it
-pub record HasNode (cells : List Cell) (last : Option NodeId) (numbers : List NodeId) (i : ℕ) (node : Node) : Type 0 where
+pub record HasNode (cells : List Cell) (last : Option NodeId) (numbers : List NodeId) (i : ℕ)
+    (node : Node) : Type 0 where
   pub tree : Plain
   pub head_is : IsHeadNode node tree
-  pub laid : IsLaid cells None None (number (opened tree) (beyond (suc i) (numbers_of numbers))) None
+  pub laid :
+      IsLaid cells None None (number (opened tree) (beyond (suc i) (numbers_of numbers))) None
   pub last_is : last ≡ last_id (number (opened tree) (beyond (suc i) (numbers_of numbers))) None
   pub sized : i + size tree ≡ length numbers
   pub fits : length numbers ≤ length cells

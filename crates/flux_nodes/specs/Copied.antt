@@ -30,7 +30,8 @@ steps_to n d = (2 * n + depth d) - 2 * written_in d
 
 -- the walk stands between two trees: those before it are written, and it knows the tree behind it
 -- and the element around it
-pub record IsWalk (walk : Walk) (trees : Hedge ℕ) (p : Option NodeId) (d : PlainDraft) : Type 0 where
+pub record IsWalk (walk : Walk) (trees : Hedge ℕ) (p : Option NodeId) (d : PlainDraft)
+    : Type 0 where
   pub above : Above
   pub left : Hedge ℕ
   pub rest : Hedge ℕ

@@ -70,7 +70,11 @@ seat_unlink m run s h =
 
 abbrev pub seat_link : Meaning → Run → Seat → Meaning
 seat_link m run s =
-    record { document = seated s (trees_at m run); unlinked = set m.unlinked run.first.0 nil; spare = m.spare }
+    record {
+      document = seated s (trees_at m run);
+      unlinked = set m.unlinked run.first.0 nil;
+      spare = m.spare;
+    }
 
 -- a link names one of the cells, if any
 abbrev pub IsWithin : Option NodeId → ℕ → Type 0
@@ -85,7 +89,8 @@ pub record HasRun (cells : List Cell) (t e : Option NodeId) (run : Run) : Type 0
   pub at : RunSeat meaning.document run
 
 -- a table with this place in its document, and with this unlinked run
-pub record HasPlace (cells : List Cell) (t e : Option NodeId) (place : Place) (run : Run) : Type 0 where
+pub record HasPlace (cells : List Cell) (t e : Option NodeId) (place : Place) (run : Run)
+    : Type 0 where
   pub meaning : Meaning
   pub free : Option NodeId
   pub table : IsTable cells t e free meaning
@@ -93,7 +98,8 @@ pub record HasPlace (cells : List Cell) (t e : Option NodeId) (place : Place) (r
   pub loose : IsLoose meaning run
 
 -- what follows v under p
-abbrev pub Follows : List Cell → Option NodeId → Option NodeId → Option NodeId → Option NodeId → Type 0
+abbrev pub Follows :
+    List Cell → Option NodeId → Option NodeId → Option NodeId → Option NodeId → Type 0
 Follows cells t p (Some v) r = (c : Cell) → slice_get cells v.0 ≡ Some c → r ≡ c.next
 Follows cells t (Some p) None r = (c : Cell) → slice_get cells p.0 ≡ Some c → r ≡ c.first
 Follows cells t None None r = r ≡ t
@@ -152,7 +158,8 @@ IsTaken old new [] f node = (node.0 ≡ length old) × (new ≡ old ++ free_cell
 IsTaken old new (m ∷ ms) f node = (node.0 ≡ m) × (new ≡ old) × (f ≡ spare_head ms)
 
 -- the first k numbers are taken, where the free list was ms
-pub record AreTaken (old new : List Cell) (ms : List ℕ) (f : Option NodeId) (numbers : List NodeId) (k : ℕ) : Type 0 where
+pub record AreTaken (old new : List Cell) (ms : List ℕ) (f : Option NodeId)
+    (numbers : List NodeId) (k : ℕ) : Type 0 where
   pub cells_are : new ≡ old ++ copies (k - length ms) (free_cell None)
   pub free_is : f ≡ spare_head (drop k ms)
   pub length_is : length numbers ≡ k

@@ -28,7 +28,8 @@ last_id nil o = o
 last_id (elem m a c r) o = last_id r (Some (id m))
 last_id (leaf m x r) o = last_id r (Some (id m))
 
-abbrev pub elem_cell : ℕ → Option NodeId → Option NodeId → Option NodeId → Option NodeId → Option NodeId → Cell
+abbrev pub elem_cell :
+    ℕ → Option NodeId → Option NodeId → Option NodeId → Option NodeId → Option NodeId → Cell
 elem_cell a p v w f b =
     record { kind = Elem a; parent = p; prev = v; next = w; first = f; last = b }
 
@@ -84,7 +85,8 @@ pub record RunLaid (cells : List Cell) (run : Run) : Type 0 where
   pub once : (k : ℕ) → times k trees ≤ 1
   pub fits : size trees ≤ length cells
 
-pub record IsUnder (old new : List Cell) (run : Run) (p : Option NodeId) (r : RunLaid old run) : Type 0 where
+pub record IsUnder (old new : List Cell) (run : Run) (p : Option NodeId) (r : RunLaid old run)
+    : Type 0 where
   pub laid : IsLaid new p r.prev r.trees r.next
   pub others : (k : ℕ) → times k r.trees ≡ 0 → slice_get new k ≡ slice_get old k
 

@@ -34,10 +34,14 @@ abbrev pub seated : Seat → Hedge ℕ → Hedge ℕ
 seated s h = fill s.above (join s.left (join h s.right))
 
 -- the elements around a place, where its trees begin with f and end with b
-abbrev pub IsAbove : List Cell → Option NodeId → Option NodeId → Above → Option NodeId → Option NodeId → Type 0
+abbrev pub IsAbove :
+    List Cell → Option NodeId → Option NodeId → Above → Option NodeId → Option NodeId → Type 0
 IsAbove cells t e top f b = (t ≡ f) × (e ≡ b)
 IsAbove cells t e (under u l m a r) f b =
-    (slice_get cells m ≡ Some (elem_cell a (parent_of u) (last_id l None) (first_id r None) f b)) × IsLaid cells (parent_of u) None l (Some (id m)) × IsLaid cells (parent_of u) (Some (id m)) r None × IsAbove cells t e u (first_id l (Some (id m))) (last_id r (Some (id m)))
+    (slice_get cells m ≡ Some (elem_cell a (parent_of u) (last_id l None) (first_id r None) f b)) ×
+    IsLaid cells (parent_of u) None l (Some (id m)) ×
+    IsLaid cells (parent_of u) (Some (id m)) r None ×
+    IsAbove cells t e u (first_id l (Some (id m))) (last_id r (Some (id m)))
 
 -- what stands after v under p becomes w: the cells, and the first tree of all
 abbrev pub ahead : List Cell → Option NodeId → Option NodeId → Option NodeId → List Cell
@@ -56,7 +60,8 @@ behind cells p (Some w) v = edit (with_prev v) w.0 cells
 behind cells (Some p) None v = edit (with_last v) p.0 cells
 behind cells None None v = cells
 
-abbrev pub behind_top : Option NodeId → Option NodeId → Option NodeId → Option NodeId → Option NodeId
+abbrev pub behind_top :
+    Option NodeId → Option NodeId → Option NodeId → Option NodeId → Option NodeId
 behind_top e p (Some w) v = e
 behind_top e (Some p) None v = e
 behind_top e None None v = v
