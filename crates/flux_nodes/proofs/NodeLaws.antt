@@ -1,17 +1,19 @@
 -- What callers of a table have at hand: runs and nodes that follow from others, and the numbers to
 -- come after each call.
-use Rattle.std.proofs.Common.{◌≡◌, inl, inr, ℕ, ◌+◌, ◌-◌, ◌<◌, zero, suc, List, [], ◌∷◌, length, drop, Option, Some, None, refl, ap, ◌∙◌, sym, subst, arith}
+use Rattle.flux_nodes.proofs.SeenLaws.{split2}
+use Rattle.flux_nodes.specs.Laid.{id}
+use Rattle.std.proofs.Common.{◌≡◌, inl, inr, ℕ, ◌+◌, ◌-◌, ◌<◌, zero, suc, List, [], ◌∷◌, length, drop, Option, Some, None, refl, ap, ◌∙◌, sym, subst, arith, ◌++◌, ◌⊎◌}
 use Rattle.std.proofs.lemmas.List.{get_or-set_same}
 use Rattle.flux_trees.specs.Hedge.{Hedge, Plain, nil, elem, leaf, content, others}
-use Rattle.flux_trees.specs.Frame.{Down, plug}
+use Rattle.flux_trees.specs.Frame.{Frame, Down, plug, Before, After, framed}
 use Rattle.flux_trees.specs.Edits.{Supply, preceded, beyond, last_or}
 use Rattle.flux_nodes.specs.declared.cell.NodeId.{NodeId}
 use Rattle.flux_nodes.specs.declared.cell.Kind.{Kind}
 use Rattle.flux_nodes.specs.declared.cell.Kind.TheVariants.{Elem, Leaf}
 use Rattle.flux_nodes.specs.declared.cell.Cell.{Cell}
 use Rattle.flux_nodes.specs.declared.run.Run.{Run}
-use Rattle.flux_nodes.specs.Tables.{Meaning, number_of, first_or, AreEnds, RunAt, PlaceAt, NodeAt, ElementAt, IsKindOf, IsCellOf, IsUnlinked, IsNewRun, IsSound, trees_at, times, after_unlink, after_add}
-use Rattle.flux_nodes.proofs.LaidLaws.{first_within}
+use Rattle.flux_nodes.specs.Tables.{Meaning, number_of, first_or, AreEnds, RunAt, PlaceAt, NodeAt, ElementAt, IsKindOf, IsCellOf, IsUnlinked, IsNewRun, IsSound, trees_at, times, after_unlink, after_add, one_if}
+use Rattle.flux_nodes.proofs.LaidLaws.{first_within, one_if-is}
 use Rattle.flux_nodes.proofs.MoveLaws.{below_or_not}
 use Rattle.flux_nodes.proofs.SeatLaws.{times-seated}
 use Rattle.flux_nodes.proofs.FrameLaws.{seat_of, plug-seat, first-end}
@@ -96,3 +98,31 @@ preceded-more (m ∷ ms) s (suc k) i =
 
 pub same_run : (f l : NodeId) (run : Run) → Some (record { first = f; last = l }) ≡ Some run → record { first = f; last = l } ≡ run
 same_run f l run e = cc
+
+plug-append : (fs gs : List (Frame ℕ)) (v : Hedge ℕ) → plug (fs ++ gs) v ≡ plug gs (plug fs v)
+plug-append [] gs v = refl
+plug-append (f ∷ fs) gs v = plug-append fs gs (framed f v)
+
+outside : (h g : Hedge ℕ) (gs : List (Frame ℕ)) (node : NodeId) → h ≡ plug gs g → NodeAt g node → NodeAt h node
+outside h g gs node e at = record {
+  frames = at.frames ++ gs;
+  tree = at.tree;
+  forest_is = e ∙ ap (plug gs) at.forest_is ∙ sym (plug-append at.frames gs at.tree);
+  alone = at.alone;
+  number_is = at.number_is;
+}
+
+-- a number that stands in a forest is that of a node there
+pub node-of : (k : ℕ) (h : Hedge ℕ) → 0 < times k h → NodeAt h (id k)
+node-of k nil t = absurd (omega arith)
+node-of k (elem m a c r) t = elim (split2 (one_if k m) (times k c + times k r) t) [
+  | inl x ↦ record { frames = Before r ∷ []; tree = elem m a c nil; forest_is = refl; alone = refl; number_is = ap (λ j. Some j) (sym (one_if-is k m x)) }
+  | inr y ↦ elim (split2 (times k c) (times k r) y) [
+    | inl x ↦ outside (elem m a c r) c (Down m a ∷ Before r ∷ []) (id k) refl (node-of k c x)
+    | inr x ↦ outside (elem m a c r) r (After (elem m a c nil) ∷ []) (id k) refl (node-of k r x)
+  ]
+]
+node-of k (leaf m x r) t = elim (split2 (one_if k m) (times k r) t) [
+  | inl y ↦ record { frames = Before r ∷ []; tree = leaf m x nil; forest_is = refl; alone = refl; number_is = ap (λ j. Some j) (sym (one_if-is k m y)) }
+  | inr y ↦ outside (leaf m x r) r (After (leaf m x nil) ∷ []) (id k) refl (node-of k r y)
+]
