@@ -2,7 +2,7 @@
 -- come after each call.
 use Rattle.flux_nodes.proofs.SeenLaws.{split2}
 use Rattle.flux_nodes.specs.Laid.{id}
-use Rattle.std.proofs.Common.{◌≡◌, inl, inr, ℕ, ◌+◌, ◌-◌, ◌<◌, zero, suc, List, [], ◌∷◌, length, drop, Option, Some, None, refl, ap, ◌∙◌, sym, subst, arith, ◌++◌, ◌⊎◌}
+use Rattle.std.proofs.Common.{◌≡◌, inl, inr, ℕ, ◌+◌, ◌-◌, ◌<◌, zero, suc, List, [], ◌∷◌, length, drop, Option, Some, None, refl, ap, ◌∙◌, sym, subst, arith, ◌++◌}
 use Rattle.std.proofs.lemmas.List.{get_or-set_same}
 use Rattle.flux_trees.specs.Hedge.{Hedge, Plain, nil, elem, leaf, content, others}
 use Rattle.flux_trees.specs.Frame.{Frame, Down, plug, Before, After, framed}
