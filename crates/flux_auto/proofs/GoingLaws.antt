@@ -38,7 +38,7 @@ any_is {X} f (y ∷ xs) h = by (f y) refl h (any_is f xs)
 pub any_of : {X : Type 0} (f : X → Bool) (xs : List X) (x : X) → Has xs x → f x ≡ true → list_any f xs ≡ true
 any_of f xs x (k, at) h = any_passes_from_place f xs k x at h
 
-equal : (m n : ℕ) → (m == n) ≡ true → m ≡ n
+pub equal : (m n : ℕ) → (m == n) ≡ true → m ≡ n
 equal m n e = elim (eqb_tells m n) [ inl h ↦ h.1 | inr h ↦ absurd (let x : true ≡ false = sym e ∙ h.0 in cc) ]
 
 equal_is : (n : ℕ) → (n == n) ≡ true

@@ -17,6 +17,7 @@ pub mod ArcLaws
 pub mod Adding
 pub mod Folding
 pub mod Interning
+pub mod PartLaws
 pub mod Recipes
 pub mod Building
 pub mod TakeLaws

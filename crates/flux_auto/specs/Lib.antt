@@ -11,4 +11,5 @@ pub mod Shown
 pub mod Folding
 pub mod Profiles
 pub mod Witness
+pub mod Part
 pub mod TakesLaw

@@ -9,8 +9,8 @@ ghost use Rattle.flux_types.specs.Read.{ty_of};
 use crate::Edge;
 use crate::make::{begin, extend_or_stay};
 use crate::nullable::nullable_names;
+use crate::part::Part;
 use crate::run::is_taken;
-use crate::sets::arcs_of;
 use crate::table::Table;
 use crate::worklist::some_of;
 use flux_atom::Name;
@@ -73,6 +73,7 @@ impl Model for Auto {
 impl Auto {
     ghost use Rattle.flux_auto.specs.TakesLaw.{TakesByEdges};
     ghost use Rattle.flux_auto.specs.Automaton.{IsSomeMember, TakesMembers, KeepsStates, EdgesInside, EdgesGiven};
+    ghost use Rattle.flux_auto.specs.Part.{IsPartOf};
 
     /// An automaton of the definitions, to which no type was added. It keeps copies of them. An
     /// element of any label is shown by one with the label `other`, which may be one that no type
@@ -118,8 +119,9 @@ impl Auto {
         Ok(start)
     }
 
-    /// Whether a forest is a member of a type that was added. First it sorts the edges by what they
-    /// go by, which takes the time of going over them and the names up to the last label once. The
+    /// Whether a forest is a member of a type that was added. First it sorts the edges of the states
+    /// that the type leads to by what they go by, which takes the time of going over them and the
+    /// names up to the last label once; what other types and definitions have plays no part. The
     /// profile of a forest is the set of the states that take it. Each profile is kept once and has
     /// a number. A tree in front of a forest takes the time of looking up what its label, or kind
     /// of atom, and the numbers of the two profiles give. That is found when they meet for the
@@ -134,8 +136,7 @@ impl Auto {
     {
         let alloc = *self.added.allocator();
         let rows = self.table.rows.as_slice();
-        let arcs = arcs_of(alloc, rows)?;
-        is_taken(alloc, rows, &arcs, self.added[start.0].state, view)
+        is_taken(alloc, rows, self.added[start.0].state, view)
     }
 
     /// A member of a type that was added, if it has one. An element of any label has the label
@@ -186,5 +187,12 @@ impl Auto {
         ensures { option_map (λ s. s.edges) (slice_get self.now.states state) ≡ Some result.now }
     {
         self.table.rows[state as usize].edges.as_slice()
+    }
+
+    /// The part of the automaton that states lead to. They are its first states, in order.
+    pub fn part(&self, alloc: Global, states: &[u64]) -> Result<Part, AllocError>
+        ensures { IfOk result (IsPartOf self.now.states states.now) }
+    {
+        Part::of(alloc, self.table.rows.as_slice(), states)
     }
 }

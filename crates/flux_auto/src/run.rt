@@ -8,7 +8,9 @@ ghost use Rattle.flux_auto.specs.Folding.{AreTrees};
 ghost use Rattle.flux_auto.specs.Profiles.{AreRight, profile_at, profiles_of};
 
 use crate::arcs::Arcs;
+use crate::part::part_of;
 use crate::profiles::{NOTHING, Profiles, Turn, after, begin_profiles, set_at};
+use crate::sets::arcs_of;
 use crate::table::Row;
 use flux_atom::{Name, kind};
 use flux_forest::{First, View};
@@ -83,19 +85,20 @@ fn number_of(
     }
 }
 
-// Whether a state takes a forest.
+// Whether a state takes a forest, found in the part of the automaton that it leads to.
 pub(crate) fn is_taken(
     alloc: Global,
     rows: &[Row],
-    arcs: &Arcs,
     state: u64,
     run: View<'_>,
 ) -> Result<bool, AllocError>
-    requires { IsIndex (map state_of rows.now) arcs.now }
     ensures { IfOk result
         (λ taken. taken ≡ takes (map state_of rows.now) state (forest_of run.entry)) }
 {
-    let mut profiles = begin_profiles(alloc, rows)?;
-    let number = number_of(alloc, rows, arcs, &mut profiles, run)?;
-    Ok(set_at(&profiles, number).has(state))
+    let part = part_of(alloc, rows, &[state])?;
+    let reached = part.as_slice();
+    let arcs = arcs_of(alloc, reached)?;
+    let mut profiles = begin_profiles(alloc, reached)?;
+    let number = number_of(alloc, reached, &arcs, &mut profiles, run)?;
+    Ok(set_at(&profiles, number).has(0))
 }

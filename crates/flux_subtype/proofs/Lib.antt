@@ -1,5 +1,4 @@
 pub mod Items
-pub mod PartLaws
 pub mod KeptLaws
 pub mod CoverLaws
 pub mod Turning

@@ -1,5 +1,5 @@
 -- The search, from its beginning to its answer.
-use Rattle.std.proofs.Common.{◌≡◌, ℕ, ◌<◌, ◌≤◌, List, [], length, Bool, true, false, Option, Some, None, slice_get, refl, sym, ap, subst, ◌∙◌, inl, inr, arith}
+use Rattle.std.proofs.Common.{◌≡◌, ℕ, ◌<◌, ◌≤◌, List, [], ◌∷◌, length, Bool, true, false, Option, Some, None, slice_get, refl, sym, ap, subst, ◌∙◌, inl, inr, arith}
 use Rattle.std.proofs.lemmas.List.{length-map}
 use Rattle.flux_atom.specs.declared.atom.AtomKind.{AtomKind}
 use Rattle.flux_atom.specs.declared.atom.AtomKind.TheVariants as kind
@@ -8,11 +8,12 @@ use Rattle.flux_trees.specs.Draft.{Draft, done}
 use Rattle.flux_schema.proofs.MarkLaws.{le_or}
 use Rattle.flux_auto.specs.declared.arcs.Arcs.{Arcs}
 use Rattle.flux_auto.specs.declared.arcs.Leap.{Leap}
-use Rattle.flux_auto.specs.declared.edge.Edge.TheVariants as edge
 use Rattle.flux_auto.specs.declared.recipe.Recipe.{Recipe}
 use Rattle.flux_auto.specs.declared.recipe.Recipe.TheVariants.{End, Elem}
 use Rattle.flux_auto.specs.Takes.{State, has, takes, profile_nil}
+use Rattle.flux_auto.specs.Going.{LacksEdge}
 use Rattle.flux_auto.specs.Arcs.{IsIndex, leaps_at}
+use Rattle.flux_auto.specs.Part.{IsPartOf}
 use Rattle.flux_auto.specs.Witness.{forests, forest_at, AreOlder, IsShownBy}
 use Rattle.flux_auto.proofs.ArcLaws.{atom_fires}
 use Rattle.flux_auto.proofs.Items.{has-nil, get-push}
@@ -20,7 +21,6 @@ use Rattle.flux_auto.proofs.Meaning.{get_of-map}
 use Rattle.flux_auto.proofs.Recipes.{forests_labelled}
 use Rattle.flux_subtype.specs.declared.trees.Head.TheVariants.{Atom}
 use Rattle.flux_subtype.specs.Kept.{Kept, recipes, forest_of, IsRecipeLabel, IsKeptLabel, AreKept, Grows, Keeps}
-use Rattle.flux_subtype.specs.Part.{IsPartOf}
 use Rattle.flux_subtype.specs.Search.{Tree, ByAtom, IsFound, IsAnswer, IsHeadLabel, IsUsed, LabelsGrow, MovesBy, AddsTree, IsDone, IsAgainst}
 use Rattle.flux_subtype.proofs.KeptLaws.{grows-set_at, keeps_more}
 use Rattle.flux_subtype.proofs.Turning.{stands-grows}
@@ -107,8 +107,14 @@ kept_label : (ks : List Kept) (i n c r : ℕ) → slice_get (recipes ks) i ≡ S
 kept_label ks i n c r e = let q = get_of-map (λ (k : Kept). k.1) ks i (Elem n c r) e in (i, q.0, q.1, subst (λ f. IsRecipeLabel f n) q.2 refl)
 
 -- what is found in the part answers for the whole: the right state takes all that the left one takes
-pub none_answers : (a part : List State) (other : ℕ) (ks : List Kept) (left right : ℕ) (found : Option ℕ) → IsPartOf a left right part → found ≡ None → IsFound part ks left right found → IsAnswer a other left right None
-none_answers a part other ks left right found same none f v t = sym (same.right v) ∙ subst (IsFound part ks left right) none f v (same.left v ∙ t)
+pub none_answers : (a part : List State) (other : ℕ) (ks : List Kept) (left right : ℕ) (found : Option ℕ) → IsPartOf a (left ∷ right ∷ []) part → found ≡ None → IsFound part ks 0 1 found → IsAnswer a other left right None
+none_answers a part other ks left right found same none f v t = sym (same.starts 1 right v refl) ∙ subst (IsFound part ks 0 1) none f v (same.starts 0 left v refl ∙ t)
+
+-- no edge of the part is by an element with a label that the edges of the whole lack
+pub lacks_part : (a part : List State) (firsts : List ℕ) (other : ℕ) → IsPartOf a firsts part → LacksEdge a other → LacksEdge part other
+lacks_part a part firsts other same lacks s c r (st, at, (i, is)) =
+    let (t, old, there, j, d, q, get) = same.labels other (s, st, at, i, c, r, is) in
+    lacks t d q (old, there, (j, get))
 
 -- or there is a kept profile against it, whose recipe may be followed
 pub may_build : (part : List State) (ks : List Kept) (left right : ℕ) (found : Option ℕ) (place : ℕ) (rs : List Recipe) → found ≡ Some place → IsFound part ks left right found → rs ≡ recipes ks → AreOlder rs × (place < length rs)
@@ -117,22 +123,22 @@ may_build part ks left right found place rs is f same =
     (subst AreOlder (sym same) against.0.older, (let l : place < length ks = against.1 in omega (arith, l, ap length same, length-map ks (λ (k : Kept). k.1))))
 
 -- and its forest shows it
-pub some_answers : (a part : List State) (other : ℕ) (k1 ks : List Kept) (t1 ts : List Tree) (left right : ℕ) (found : Option ℕ) (i : ℕ) (rs : List Recipe) (d : Draft (Unit {0})) → IsPartOf a left right part → ((n : ℕ) → IsUsed k1 t1 n → ⊥)
-    → LabelsGrow part other k1 t1 ks ts → found ≡ Some i → IsFound part ks left right found → rs ≡ recipes ks → d ≡ done (forest_at (forests rs) i) → IsAnswer a other left right (Some d)
+pub some_answers : (a part : List State) (other : ℕ) (k1 ks : List Kept) (t1 ts : List Tree) (left right : ℕ) (found : Option ℕ) (i : ℕ) (rs : List Recipe) (d : Draft (Unit {0})) → IsPartOf a (left ∷ right ∷ []) part → ((n : ℕ) → IsUsed k1 t1 n → ⊥)
+    → LabelsGrow part other k1 t1 ks ts → found ≡ Some i → IsFound part ks 0 1 found → rs ≡ recipes ks → d ≡ done (forest_at (forests rs) i) → IsAnswer a other left right (Some d)
 some_answers a part other k1 ks t1 ts left right found i rs d same none labels is f from whole = (
   forest_of ks i,
   whole ∙ ap (λ l. done (forest_at (forests l) i)) from,
-  sym (same.left (forest_of ks i)) ∙ ap (λ p. has p left) (sym (kept.0.profiles i kept.1)) ∙ kept.2.0,
-  sym (same.right (forest_of ks i)) ∙ ap (λ p. has p right) (sym (kept.0.profiles i kept.1)) ∙ kept.2.1,
+  sym (same.starts 0 left (forest_of ks i) refl) ∙ ap (λ p. has p 0) (sym (kept.0.profiles i kept.1)) ∙ kept.2.0,
+  sym (same.starts 1 right (forest_of ks i) refl) ∙ ap (λ p. has p 1) (sym (kept.0.profiles i kept.1)) ∙ kept.2.1,
   forests_labelled (IsShownBy a other) [] (recipes ks) (λ j. tt) (λ j n c r e. shown n (kept_label ks j n c r e)) i,
 )
   where
-    kept : IsFound part ks left right (Some i)
-    kept = subst (IsFound part ks left right) is f
+    kept : IsFound part ks 0 1 (Some i)
+    kept = subst (IsFound part ks 0 1) is f
 
     shown : (n : ℕ) → IsKeptLabel ks n → IsShownBy a other n
     shown n h = elim (labels n (inl h)) [
       | inl used ↦ absurd (none n used)
       | inr (inl is) ↦ inl is
-      | inr (inr (s, st, at, j, c, r, e)) ↦ (let g = same.edges s (edge.Elem n c r) (st, at, (j, e)) in inr (s, g.0, g.1, g.2.0, c, r, g.2.1))
+      | inr (inr l) ↦ inr (same.labels n l)
     ]

@@ -1,4 +1,3 @@
-pub mod Part
 pub mod Kept
 pub mod Search
 pub mod Setting

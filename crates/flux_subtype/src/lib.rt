@@ -2,7 +2,6 @@
 #![tactic(auto)]
 
 mod kept;
-mod part;
 mod profiles;
 mod search;
 mod trees;

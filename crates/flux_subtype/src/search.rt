@@ -1,33 +1,19 @@
 // The search for a forest that one state takes and another doesn't.
 ghost use Rattle.std.specs.Prelude.{◌≡◌, ◌↔◌, ◌<◌, ◌≤◌, ◌+◌, ℕ, length, replicate, IfOk, OnOk, IfSome, IfNone, IsTrue, true, false};
-ghost use Rattle.flux_auto.specs.Takes.{has, profile_nil};
+ghost use Rattle.flux_auto.specs.Takes.{has};
 ghost use Rattle.flux_auto.specs.Arcs.{IsIndex, fired};
 ghost use Rattle.flux_auto.specs.Going.{LacksEdge};
 ghost use Rattle.flux_subtype.specs.Kept.{set_at, AreKept};
 ghost use Rattle.flux_subtype.specs.Search.{MovesBy, AreTrees, AnsweredBelow, Puts, Fills, FillsAll, IsDone, LabelsGrow, Turned, IsAgainst, IsFound, IsAnswer, IsUsed, recipe_of};
 
 use crate::kept::{keep, recipes_of, set_at};
-use crate::part::Part;
 use crate::trees::{Head, add_elements, add_tree};
 use flux_atom::{AtomKind, Name};
-use flux_auto::{Arcs, Auto, Leap, Recipe, Set, build, fired};
+use flux_auto::{Arcs, Auto, Leap, Part, Recipe, Set, build, fired};
 use flux_forest::Forest;
 use indexmap::IndexMap;
 use std::alloc::{AllocError, Global};
 use std::ops::Range;
-
-// The profile of the empty forest.
-fn nil_profile(alloc: Global, part: &Part<'_>) -> Result<Set, AllocError>
-    ensures { IfOk result (λ set. set ≡ profile_nil part.now) }
-{
-    let mut set = Set::none(alloc, part.states() as usize)?;
-    for state in 0..part.states() {
-        if part.ends(state) {
-            set.insert(state);
-        }
-    }
-    Ok(set)
-}
 
 // Whether no state takes a tree that goes by the edges before a rest with the profile.
 fn is_silent(leaps: &[Leap], rest: &Set) -> bool
@@ -53,7 +39,7 @@ fn recipe(head: Head, rest: usize) -> Recipe
 // Keeps the profile of a tree and a rest, if some state takes them.
 fn put(
     alloc: Global,
-    part: &Part<'_>,
+    part: &Part,
     kept: &mut IndexMap<Set, Recipe>,
     head: &Head,
     leaps: &[Leap],
@@ -77,7 +63,7 @@ fn put(
 // Keeps the profiles of a tree before each of a range of profiles.
 fn fill(
     alloc: Global,
-    part: &Part<'_>,
+    part: &Part,
     kept: &mut IndexMap<Set, Recipe>,
     head: &Head,
     leaps: &[Leap],
@@ -107,7 +93,7 @@ struct Found {
 // there before and of earlier profiles are kept.
 fn fill_all(
     alloc: Global,
-    part: &Part<'_>,
+    part: &Part,
     found: &mut Found,
     before: usize,
     done: usize,
@@ -135,7 +121,7 @@ fn fill_all(
 // Takes up a profile: as the content of elements, and behind every tree.
 fn turn(
     alloc: Global,
-    part: &Part<'_>,
+    part: &Part,
     arcs: &Arcs,
     other: Name,
     found: &mut Found,
@@ -180,7 +166,7 @@ fn against(kept: &IndexMap<Set, Recipe>, from: usize, left: u64, right: u64) -> 
 // Takes up the profiles one after another, until one is against the inclusion or none is left.
 fn saturate(
     alloc: Global,
-    part: &Part<'_>,
+    part: &Part,
     arcs: &Arcs,
     other: Name,
     left: u64,
@@ -209,14 +195,14 @@ fn saturate(
 }
 
 // The trees that are atoms, and the profile of the empty forest.
-fn begin(alloc: Global, part: &Part<'_>, arcs: &Arcs) -> Result<Found, AllocError>
+fn begin(alloc: Global, part: &Part, arcs: &Arcs) -> Result<Found, AllocError>
     requires { IsIndex part.now arcs.now }
     ensures done { IfOk result (λ found. IsDone part.now found.kept.entries found.trees.entries 0) }
     ensures bare { IfOk result
         (λ found. (n : ℕ) → IsUsed found.kept.entries found.trees.entries n → ⊥) }
 {
     let mut kept = IndexMap::new(alloc);
-    keep(&mut kept, nil_profile(alloc, part)?, Recipe::End)?;
+    keep(&mut kept, part.nothing(alloc)?, Recipe::End)?;
     let mut trees = IndexMap::new(alloc);
     let (bool, text, int) = (AtomKind::Bool, AtomKind::Text, AtomKind::Int);
     add_tree(
@@ -245,15 +231,13 @@ pub(crate) fn search(
     left: u64,
     right: u64,
 ) -> Result<Option<Forest>, AllocError>
-    requires lacks { LacksEdge auto.now.states other }
-    requires left { left < length auto.now.states }
-    requires right { right < length auto.now.states }
+    requires { LacksEdge auto.now.states other }
     ensures { IfOk result (IsAnswer auto.now.states other left right) }
 {
-    let part = Part::of(alloc, auto, left, right)?;
+    let part = auto.part(alloc, &[left, right])?;
     let arcs = part.arcs(alloc)?;
     let mut found = begin(alloc, &part, &arcs)?;
-    let Some(place) = saturate(alloc, &part, &arcs, other, left, right, &mut found)? else {
+    let Some(place) = saturate(alloc, &part, &arcs, other, 0, 1, &mut found)? else {
         return Ok(None);
     };
     let recipes = recipes_of(alloc, &found.kept)?;

@@ -1,10 +1,9 @@
-use Rattle.std.proofs.Common.{◌∙◌}
-use Rattle.flux_auto.specs.declared.edge.Edge.TheVariants.{Elem}
-use Rattle.flux_subtype.proofs.Searching.{none_answers, may_build, some_answers}
+use Rattle.std.proofs.Common.{◌∙◌, ◌∷◌, []}
+use Rattle.flux_subtype.proofs.Searching.{none_answers, lacks_part, may_build, some_answers}
 use Rattle.flux_subtype.proofs.search.search.Goals as goal
 
 pub saturate-requires-clause-lacks : goal.saturate-requires-clause-lacks
-saturate-requires-clause-lacks c = λ s d r e. c.requires.lacks s d r (c.in_ok-part.ensures.edges s (Elem c.args.other d r) e)
+saturate-requires-clause-lacks c = lacks_part c.args.auto.now.states c.in_ok-part.part (c.args.left ∷ c.args.right ∷ []) c.args.other c.in_ok-part.ensures c.requires
 
 pub returns-in_default : goal.returns-in_default
 returns-in_default c = none_answers c.args.auto.now.states c.in_ok-part.part c.args.other c.saturate.new.found.kept.entries c.args.left c.args.right c.in_ok-place.field-0 c.in_ok-part.ensures c.in_default.is c.in_ok-place.ensures.found

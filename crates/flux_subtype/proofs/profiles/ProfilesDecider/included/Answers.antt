@@ -6,8 +6,8 @@ use Rattle.flux_subtype.specs.Setting.{Setting}
 use Rattle.flux_subtype.proofs.Deciding.{lacks_edge, two_types, evidence}
 use Rattle.flux_subtype.proofs.profiles.ProfilesDecider.included.Goals as goal
 
-pub search-requires-clause-lacks : goal.search-requires-clause-lacks
-search-requires-clause-lacks c =
+pub search-requires : goal.search-requires
+search-requires c =
     let t = ty_of c.args.left.now in
     let u = ty_of c.args.right.now in
     let other = ap (λ (p : Setting). p.other) (sym c.self.view_is) in
