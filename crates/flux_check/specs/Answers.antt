@@ -1,0 +1,42 @@
+-- What the typing of statements answers, and what it may be asked of.
+use Rattle.std.specs.Prelude.{◌≡◌, ℕ, Some, All}
+use Rattle.flux_schema.specs.Ty.{Ty}
+use Rattle.flux_schema.specs.Definitions.{Definitions}
+use Rattle.flux_schema.specs.Labels.{Lacks}
+use Rattle.flux_types.specs.Verdicts.{IsEvidence}
+use Rattle.flux_calculus.specs.Query.{Query}
+use Rattle.flux_calculus.specs.Typing.{Context, Outcome}
+use Rattle.flux_calculus.specs.Core.{Core, Proc, Procs, proc_of}
+use Rattle.flux_typing.specs.Update.{TypesUpdate, with_definitions}
+use Rattle.flux_typing.specs.Labels.{ProcsLack}
+use Rattle.flux_core.specs.declared.fault.KindFault.{KindFault}
+use Rattle.flux_core.specs.Faults.{IsFault, IsUsable}
+use Rattle.flux_querytype.specs.Answers.{IsReady}
+
+-- at the type, the statement has this outcome, and the definitions before it stand behind it
+abbrev pub Comes : Procs → Definitions → Context → Ty → Core → Outcome → Type 0
+Comes procs defs Γ t s o = TypesUpdate procs defs Γ t s (with_definitions defs o)
+
+-- the statement is typed with this fault; a forest that is shown has labels that were given, and
+-- `other`
+abbrev pub IsUpdateFault : Definitions → ℕ → Procs → Context → Ty → Core → KindFault → Type 0
+IsUpdateFault defs other procs Γ t s = IsFault (IsEvidence defs other) (Comes procs defs Γ t s)
+
+-- the types that a procedure declares can be used
+pub record IsUsableProc (defs : Definitions) (q : Proc) : Type 0 where
+  pub params : All (λ p. IsUsable defs p.1) q.params
+  pub focus : IsUsable defs q.focus
+  pub result : IsUsable defs q.result
+
+abbrev pub AreUsableProcs : Definitions → Procs → Type 0
+AreUsableProcs defs procs = (p : ℕ) (q : Proc) → proc_of procs p ≡ Some q → IsUsableProc defs q
+
+-- a type, procedures and the types of variables can be used under the definitions, which are kept,
+-- and the label stands in none of them
+pub record IsStage (defs : Definitions) (other : ℕ) (Γ : Context) (procs : Procs) (t : Ty) :
+    Type 0 where
+  pub ready : IsReady defs other Γ
+  pub procs_usable : AreUsableProcs defs procs
+  pub procs_lack : ProcsLack other procs
+  pub usable : IsUsable defs t
+  pub lacks : Lacks other t

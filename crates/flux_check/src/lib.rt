@@ -1,0 +1,4 @@
+//! The types of statements.
+#![tactic(auto)]
+
+mod one;
