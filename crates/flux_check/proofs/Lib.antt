@@ -1,1 +1,4 @@
 pub mod OneTrees
+pub mod Scenes
+pub mod Rules
+pub mod LeafLaws

@@ -1,13 +1,14 @@
 -- What the typing of statements answers, and what it may be asked of.
-use Rattle.std.specs.Prelude.{◌≡◌, ℕ, Some, All}
+use Rattle.std.specs.Prelude.{◌≡◌, ℕ, List, Some, None, All}
 use Rattle.flux_schema.specs.Ty.{Ty}
 use Rattle.flux_schema.specs.Definitions.{Definitions}
 use Rattle.flux_schema.specs.Labels.{Lacks}
 use Rattle.flux_types.specs.Verdicts.{IsEvidence}
 use Rattle.flux_calculus.specs.Query.{Query}
-use Rattle.flux_calculus.specs.Typing.{Context, Outcome}
-use Rattle.flux_calculus.specs.Core.{Core, Proc, Procs, proc_of}
-use Rattle.flux_typing.specs.Update.{TypesUpdate, with_definitions}
+use Rattle.flux_calculus.specs.declared.ask.Span.{Span}
+use Rattle.flux_calculus.specs.Typing.{Context, Outcome, typed, faulty}
+use Rattle.flux_calculus.specs.Core.{Core, choice, Proc, Procs, proc_of}
+use Rattle.flux_typing.specs.Update.{Arguments, TypesUpdate, with_definitions}
 use Rattle.flux_typing.specs.Labels.{ProcsLack}
 use Rattle.flux_core.specs.declared.fault.KindFault.{KindFault}
 use Rattle.flux_core.specs.Faults.{IsFault, IsUsable}
@@ -21,6 +22,15 @@ Comes procs defs Γ t s o = TypesUpdate procs defs Γ t s (with_definitions defs
 -- `other`
 abbrev pub IsUpdateFault : Definitions → ℕ → Procs → Context → Ty → Core → KindFault → Type 0
 IsUpdateFault defs other procs Γ t s = IsFault (IsEvidence defs other) (Comes procs defs Γ t s)
+
+-- a choice with this condition has this outcome, whatever its parts are
+abbrev pub InAnyChoice : Procs → Definitions → Context → Ty → Query → Outcome → Type 0
+InAnyChoice procs defs Γ t c o = (at : Span) (s r : Core) → Comes procs defs Γ t (choice at c s r) o
+
+-- what the arguments come to: all fit their parameters, or this is the first fault
+abbrev pub ArgumentsCome : Definitions → Context → Context → List Query → Outcome → Type 0
+ArgumentsCome defs Γ ps qs (typed t) = Arguments defs Γ ps qs None
+ArgumentsCome defs Γ ps qs (faulty f) = Arguments defs Γ ps qs (Some f)
 
 -- the types that a procedure declares can be used
 pub record IsUsableProc (defs : Definitions) (q : Proc) : Type 0 where

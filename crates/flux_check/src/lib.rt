@@ -1,4 +1,5 @@
 //! The types of statements.
 #![tactic(auto)]
 
+mod leaf;
 mod one;

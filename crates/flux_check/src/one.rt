@@ -11,10 +11,10 @@ ghost use Rattle.flux_core.specs.Faults.{IsUsable};
 ghost use Rattle.flux_core.specs.Answers.{IsConclusion};
 ghost use Rattle.flux_check.specs.Ones.{measured_type, is_one, element_type, IsOpened, verdict_of};
 
-use flux_atom::{AtomKind, Name};
+use flux_atom::{AtomKind, Boxed, Name};
 use flux_calculus::Test;
-use flux_core::{KindFault, Measured, any_one, copied, measure, nothing, one_element, own};
-use flux_types::{Defs, Ty, single};
+use flux_core::{KindFault, Measured, any_one, copied, measure, one_element, own};
+use flux_types::{Defs, Ty, copy_of, single};
 use std::alloc::{AllocError, Global};
 
 // An element type that is taken apart: its label, none where it is of any, and its content.
@@ -103,22 +103,27 @@ pub(crate) fn close_element(
 }
 
 // The element type with a label and the content of another.
-pub(crate) fn labelled(alloc: Global, label: Name, one: &Measured) -> Result<Measured, KindFault>
-    ensures { IsConclusion 0 (element label (content_type (measured_type one.now))) result }
+pub(crate) fn labelled(alloc: Global, label: Name, one: &Ty) -> Result<Measured, AllocError>
+    requires { IsWithinLimits (element label (content_type (ty_of one.now))) }
+    ensures { IfOk result (λ made.
+        measured_type made ≡ element label (content_type (ty_of one.now))) }
 {
-    let content = content(alloc, one.ty.as_ref())?;
-    one_element(alloc, 0, label, content)
+    let content = content(alloc, one)?;
+    measure(alloc, Ty::Elem(label, Boxed::new(alloc, content)?))
 }
 
 // What the tree of an atom type or an element type contains.
-fn content(alloc: Global, one: &Ty) -> Result<Measured, AllocError>
-    requires { IsWithinLimits (ty_of one.now) }
-    ensures { IfOk result (λ content. measured_type content ≡ content_type (ty_of one.now)) }
+fn content(alloc: Global, one: &Ty) -> Result<Ty, AllocError>
+    ensures { IfOk result (λ content. ty_of content ≡ content_type (ty_of one.now)) }
 {
     match one {
-        Ty::Elem(_, content) | Ty::AnyElem(content) => copied(alloc, content.get()),
-        Ty::Empty | Ty::Atom(_) | Ty::Seq(_, _) | Ty::Alt(_, _) | Ty::Star(_) | Ty::Named(_) =>
-            nothing(alloc),
+        Ty::Elem(_, content) | Ty::AnyElem(content) => copy_of(alloc, content.get()),
+        Ty::Empty
+        | Ty::Atom(_)
+        | Ty::Seq(_, _)
+        | Ty::Alt(_, _)
+        | Ty::Star(_)
+        | Ty::Named(_) => Ok(Ty::Empty),
     }
 }
 
