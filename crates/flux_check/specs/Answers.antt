@@ -1,18 +1,24 @@
 -- What the typing of statements answers, and what it may be asked of.
-use Rattle.std.specs.Prelude.{◌≡◌, ℕ, List, Some, None, All}
+use Rattle.std.specs.Prelude.{◌≡◌, ℕ, List, [], ◌∷◌, Option, Some, None, All}
 use Rattle.flux_schema.specs.Ty.{Ty}
 use Rattle.flux_schema.specs.Definitions.{Definitions}
 use Rattle.flux_schema.specs.Labels.{Lacks}
+use Rattle.flux_types.specs.Read.{ty_of}
 use Rattle.flux_types.specs.Verdicts.{IsEvidence}
 use Rattle.flux_calculus.specs.Query.{Query}
 use Rattle.flux_calculus.specs.declared.ask.Span.{Span}
+use Rattle.flux_calculus.specs.declared.ask.Var.{Var}
+use Rattle.flux_calculus.specs.Fault.{Fault}
 use Rattle.flux_calculus.specs.Typing.{Context, Outcome, typed, faulty}
 use Rattle.flux_calculus.specs.Core.{Core, choice, Proc, Procs, proc_of}
+use Rattle.flux_query.specs.declared.query.Query.{Query as Argument}
+use Rattle.flux_query.specs.Read.{query_of}
 use Rattle.flux_typing.specs.Update.{Arguments, TypesUpdate, with_definitions}
 use Rattle.flux_typing.specs.Labels.{ProcsLack}
 use Rattle.flux_core.specs.declared.fault.KindFault.{KindFault}
+use Rattle.flux_core.specs.declared.param.Param.{Param}
 use Rattle.flux_core.specs.Faults.{IsFault, IsUsable}
-use Rattle.flux_querytype.specs.Answers.{IsReady}
+use Rattle.flux_querytype.specs.Answers.{QueryLacks, IsReady}
 
 -- at the type, the statement has this outcome, and the definitions before it stand behind it
 abbrev pub Comes : Procs → Definitions → Context → Ty → Core → Outcome → Type 0
@@ -50,3 +56,23 @@ pub record IsStage (defs : Definitions) (other : ℕ) (Γ : Context) (procs : Pr
   pub procs_lack : ProcsLack other procs
   pub usable : IsUsable defs t
   pub lacks : Lacks other t
+
+-- each parameter and its argument: the type can be used, and the label stands in neither
+abbrev pub ArePassable : Definitions → ℕ → List Param → List Argument → Type 0
+ArePassable defs other [] [] = Unit {0}
+ArePassable defs other [] (q ∷ qs) = ⊥
+ArePassable defs other (p ∷ ps) [] = ⊥
+ArePassable defs other (p ∷ ps) (q ∷ qs) =
+    (IsUsable defs (ty_of p.ty) × Lacks other (ty_of p.ty) × QueryLacks other (query_of q))
+    × ArePassable defs other ps qs
+
+-- an argument fits its parameter, whatever comes behind them
+abbrev pub IsPassed : Definitions → Context → Var × Ty → Query → Type 0
+IsPassed defs Γ p q =
+    (ps : Context) (qs : List Query) (o : Option Fault) →
+    Arguments defs Γ ps qs o → Arguments defs Γ (p ∷ ps) (q ∷ qs) o
+
+-- arguments that begin with this one have this outcome
+abbrev pub InAnyCall : Definitions → Context → Var × Ty → Query → Outcome → Type 0
+InAnyCall defs Γ p q o =
+    (ps : Context) (qs : List Query) → ArgumentsCome defs Γ (p ∷ ps) (q ∷ qs) o

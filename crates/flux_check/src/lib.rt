@@ -1,5 +1,6 @@
 //! The types of statements.
 #![tactic(auto)]
 
+mod call;
 mod leaf;
 mod one;
