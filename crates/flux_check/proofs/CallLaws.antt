@@ -1,5 +1,5 @@
 -- Arguments and calls.
-use Rattle.std.proofs.Common.{◌≡◌, ◌∙◌, ℕ, List, [], ◌∷◌, ◌++◌, Option, Some, None, Result, Ok, Err, IsErrAnd, IfErr, length, map, refl, sym, ap, subst, arith}
+use Rattle.std.proofs.Common.{◌≡◌, ℕ, List, [], ◌∷◌, Option, Some, None, Result, IsErrAnd, IfErr, length, map, refl, sym, subst, arith}
 use Rattle.std.specs.Prelude.{All, IsSomeAnd}
 use Rattle.std.specs.List.{AllByRecursion}
 use Rattle.std.proofs.lemmas.List.Elements.{recursion_from_All}
@@ -12,23 +12,22 @@ use Rattle.flux_types.specs.Read.{ty_of}
 use Rattle.flux_types.specs.Verdicts.{IsEvidence}
 use Rattle.flux_calculus.specs.declared.ask.Span.{Span}
 use Rattle.flux_calculus.specs.declared.ask.Var.{Var}
-use Rattle.flux_calculus.specs.Fault.{Fault, bad_argument, bad_focus}
+use Rattle.flux_calculus.specs.Fault.{Fault, bad_argument}
 use Rattle.flux_calculus.specs.Query.{Query, place_of}
-use Rattle.flux_calculus.specs.Typing.{Context, Outcome, typed, faulty, concluded, Types, of_query}
+use Rattle.flux_calculus.specs.Typing.{Context, typed, faulty, Types, of_query}
 use Rattle.flux_calculus.specs.Core.{Proc, Procs, proc_of, call}
 use Rattle.flux_query.specs.declared.query.Query.{Query as Argument}
 use Rattle.flux_query.specs.Read.{query_of}
 use Rattle.flux_typing.specs.Update.{fits, misses, was_faulty, Arguments, no_more, one_more, one_wrong, of_call}
-use Rattle.flux_typing.specs.Labels.{EachLabelOfQueries, ProcLacks}
+use Rattle.flux_typing.specs.Labels.{EachLabelOfQueries}
 use Rattle.flux_core.specs.declared.fault.KindFault.{KindFault}
 use Rattle.flux_core.specs.declared.fault.KindFault.TheVariants.{BadArgument, BadFocus}
 use Rattle.flux_core.specs.declared.param.Param.{Param}
-use Rattle.flux_core.specs.declared.procs.Proc.{Proc as Procedure}
 use Rattle.flux_core.specs.Faults.{IsFault, IsUsable}
-use Rattle.flux_core.specs.Statements.{param_of, procedure_of}
+use Rattle.flux_core.specs.Statements.{param_of}
 use Rattle.flux_core.proofs.Replies.{concluded_within}
 use Rattle.flux_querytype.specs.Answers.{QueryLacks}
-use Rattle.flux_check.specs.Answers.{Comes, ArgumentsCome, IsUsableProc, ArePassable, IsPassed, InAnyCall}
+use Rattle.flux_check.specs.Answers.{Comes, ArgumentsCome, ArePassable, IsPassed, InAnyCall}
 use Rattle.flux_check.proofs.Rules.{concludes}
 use Rattle.flux_check.proofs.Scenes.{passed_by}
 

@@ -1,5 +1,5 @@
 -- Conditions, insertions and renamings.
-use Rattle.std.proofs.Common.{◌≡◌, ◌∙◌, ℕ, List, Option, Some, None, Result, Ok, Err, IsErrAnd, refl, sym, subst}
+use Rattle.std.proofs.Common.{◌≡◌, ℕ, Option, Some, None, Result, sym, subst}
 use Rattle.std.specs.Option.{option_map}
 use Rattle.flux_atom.specs.declared.atom.AtomKind.TheVariants as kind
 use Rattle.flux_trees.specs.Draft.{Draft}
@@ -7,9 +7,9 @@ use Rattle.flux_schema.specs.Ty.{Ty, empty, atom, element}
 use Rattle.flux_schema.specs.Definitions.{Definitions}
 use Rattle.flux_types.specs.Verdicts.{IsEvidence}
 use Rattle.flux_calculus.specs.declared.ask.Span.{Span}
-use Rattle.flux_calculus.specs.Fault.{not_bool, not_empty, not_single, not_element}
+use Rattle.flux_calculus.specs.Fault.{not_bool, not_single, not_element}
 use Rattle.flux_calculus.specs.Query.{Query, place_of}
-use Rattle.flux_calculus.specs.Typing.{Context, Outcome, typed, faulty, concluded, Types, of_query}
+use Rattle.flux_calculus.specs.Typing.{Context, typed, faulty, Types, of_query}
 use Rattle.flux_calculus.specs.Core.{Procs, insert, rename}
 use Rattle.flux_typing.specs.Update.{StandsFor}
 use Rattle.flux_core.specs.declared.fault.KindFault.{KindFault}
@@ -17,11 +17,11 @@ use Rattle.flux_core.specs.declared.fault.KindFault.TheVariants.{NotBool, NotEmp
 use Rattle.flux_core.specs.declared.measured.Measured.{Measured}
 use Rattle.flux_core.specs.Faults.{ShowsNothing, IsFault}
 use Rattle.flux_core.specs.Answers.{IsAnswer, IsConclusion}
-use Rattle.flux_core.proofs.Replies.{from_conclusion, passed_on}
+use Rattle.flux_core.proofs.Replies.{from_conclusion}
 use Rattle.flux_check.specs.declared.one.Opened.{Opened}
 use Rattle.flux_check.specs.Answers.{Comes, InAnyChoice}
-use Rattle.flux_check.specs.Ones.{measured_type, element_type, IsNoElement, IsOpened}
-use Rattle.flux_check.proofs.Rules.{condition_untrue, inserted, not_inserted, rename_many, rename_atom, rename_element}
+use Rattle.flux_check.specs.Ones.{measured_type, IsOpened}
+use Rattle.flux_check.proofs.Rules.{condition_untrue, not_inserted, rename_many, rename_atom, rename_element}
 
 module _ (defs : Definitions) (other : ℕ) (Γ : Context) (procs : Procs) where
   -- a forest is against a condition

@@ -3,3 +3,8 @@ pub mod Scenes
 pub mod Rules
 pub mod LeafLaws
 pub mod CallLaws
+pub mod Weights
+pub mod Stages
+pub mod Sequences
+pub mod Maps
+pub mod Parts

@@ -1,13 +1,11 @@
 -- What holds before a call and behind it: the definitions, the label and the variables are the same.
-use Rattle.std.proofs.Common.{◌≡◌, ◌∙◌, ℕ, Bool, List, ◌∷◌, drop, Result, Ok, Err, IsErrAnd, IfErr, sym, subst, ap}
+use Rattle.std.proofs.Common.{◌≡◌, ℕ, Bool, List, Result, Ok, Err, IsErrAnd, IfErr, sym, subst}
 use Rattle.flux_trees.specs.Draft.{Draft}
 use Rattle.flux_schema.specs.Ty.{Ty}
 use Rattle.flux_schema.specs.Definitions.{Definitions}
 use Rattle.flux_schema.specs.Member.{Included}
-use Rattle.flux_types.specs.declared.ty.Ty.{Ty as Tree}
 use Rattle.flux_types.specs.declared.decider.Verdict.{Verdict}
 use Rattle.flux_types.specs.declared.decider.Verdict.TheVariants.{Yes, No}
-use Rattle.flux_types.specs.Read.{ty_of}
 use Rattle.flux_types.specs.Verdicts.{TypePair, IsEvidence, IsVerdict}
 use Rattle.flux_calculus.specs.Fault.{Fault}
 use Rattle.flux_calculus.specs.Typing.{Context, Outcome, faulty}

@@ -13,7 +13,7 @@ use Rattle.flux_calculus.specs.Typing.{Context, Outcome, typed, faulty}
 use Rattle.flux_calculus.specs.Core.{Core, choice, Proc, Procs, proc_of}
 use Rattle.flux_query.specs.declared.query.Query.{Query as Argument}
 use Rattle.flux_query.specs.Read.{query_of}
-use Rattle.flux_typing.specs.Update.{Arguments, TypesUpdate, with_definitions}
+use Rattle.flux_typing.specs.Update.{Arguments, Has, of_map, TypesUpdate, with_definitions}
 use Rattle.flux_typing.specs.Labels.{ProcsLack}
 use Rattle.flux_core.specs.declared.fault.KindFault.{KindFault}
 use Rattle.flux_core.specs.declared.param.Param.{Param}
@@ -23,6 +23,10 @@ use Rattle.flux_querytype.specs.Answers.{QueryLacks, IsReady}
 -- at the type, the statement has this outcome, and the definitions before it stand behind it
 abbrev pub Comes : Procs → Definitions → Context → Ty → Core → Outcome → Type 0
 Comes procs defs Γ t s o = TypesUpdate procs defs Γ t s (with_definitions defs o)
+
+-- at each tree of the type, the statement has an outcome, and this is what becomes of the type
+abbrev pub MapComes : Procs → ℕ → Definitions → Context → Ty → Core → Outcome → Type 0
+MapComes procs at defs Γ t s o = Has procs (of_map at defs Γ t s) (with_definitions defs o)
 
 -- the statement is typed with this fault; a forest that is shown has labels that were given, and
 -- `other`

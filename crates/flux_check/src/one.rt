@@ -118,12 +118,9 @@ fn content(alloc: Global, one: &Ty) -> Result<Ty, AllocError>
 {
     match one {
         Ty::Elem(_, content) | Ty::AnyElem(content) => copy_of(alloc, content.get()),
-        Ty::Empty
-        | Ty::Atom(_)
-        | Ty::Seq(_, _)
-        | Ty::Alt(_, _)
-        | Ty::Star(_)
-        | Ty::Named(_) => Ok(Ty::Empty),
+        Ty::Empty | Ty::Atom(_) | Ty::Seq(_, _) | Ty::Alt(_, _) | Ty::Star(_) | Ty::Named(_) => Ok(
+            Ty::Empty,
+        ),
     }
 }
 

@@ -1,16 +1,14 @@
-use Rattle.std.proofs.Common.{refl, ap, ◌≡◌, ◌∙◌, List, map, length, None, subst}
+use Rattle.std.proofs.Common.{refl, ap, map, length}
 use Rattle.flux_types.specs.Read.{ty_of}
 use Rattle.flux_types.specs.Verdicts.{IsEvidence}
 use Rattle.flux_schema.specs.Member.{Included}
 use Rattle.flux_query.specs.Read.{query_of}
 use Rattle.flux_calculus.specs.Core.{call}
-use Rattle.flux_core.specs.declared.param.Param.{Param}
 use Rattle.flux_core.specs.Faults.{IsUsable}
-use Rattle.flux_core.specs.Statements.{param_of, procs_of, procedure_of}
+use Rattle.flux_core.specs.Statements.{procs_of, procedure_of}
 use Rattle.flux_core.proofs.Replies.{passed_on}
 use Rattle.flux_querytype.proofs.Left.{left_by_both}
-use Rattle.flux_typing.specs.Update.{Arguments}
-use Rattle.flux_check.specs.Answers.{Comes, ArgumentsCome, ArePassable}
+use Rattle.flux_check.specs.Answers.{Comes, ArgumentsCome}
 use Rattle.flux_check.specs.Ones.{measured_type}
 use Rattle.flux_check.proofs.Scenes.{as_before, as_behind, against, agreed}
 use Rattle.flux_check.proofs.CallLaws.{call_argument, call_shown, called, passable_as, some_proc, arguments_as, fault_arguments_as}

@@ -1,4 +1,4 @@
-use Rattle.std.proofs.Common.{refl, ◌∙◌}
+use Rattle.std.proofs.Common.{refl}
 use Rattle.flux_atom.specs.declared.atom.AtomKind.TheVariants as kind
 use Rattle.flux_schema.specs.Ty.{atom}
 use Rattle.flux_types.specs.declared.ty.Ty.TheVariants.{Atom}

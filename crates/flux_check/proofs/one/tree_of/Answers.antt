@@ -1,4 +1,3 @@
-use Rattle.flux_types.specs.Read.{ty_of}
 use Rattle.flux_check.proofs.OneTrees.{stands_for_itself, stands_for_none, stands_for_copy, one_within}
 use Rattle.flux_check.proofs.one.tree_of.Goals as goal
 
