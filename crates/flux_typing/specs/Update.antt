@@ -46,7 +46,7 @@ abbrev pub or_fault : Option Fault → Outcome → Outcome
 or_fault None o = o
 or_fault (Some f) o = faulty f
 
--- the outcome of typing that adds no definitions, as that of a query: those before it stand behind it
+-- the outcome of typing that adds no definitions, as of a query: those before it stand behind it
 abbrev pub with_definitions : Definitions → query.Outcome → Outcome
 with_definitions Δ (query.typed t) = typed t Δ
 with_definitions Δ (query.faulty f) = faulty f

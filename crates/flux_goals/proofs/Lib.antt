@@ -1,0 +1,10 @@
+pub mod Places
+pub mod GoalLaws
+pub mod AfterLaws
+pub mod FailsLaws
+pub mod TableLaws
+pub mod PartLaws
+pub mod Interning
+pub mod Standing
+pub mod SearchLaws
+pub mod AnswerLaws

@@ -1,0 +1,4 @@
+pub mod Goals
+pub mod Fails
+pub mod Table
+pub mod Known
