@@ -31,7 +31,8 @@ use Rattle.flux_nodes.proofs.SpareLaws.{has_spare}
 use Rattle.flux_nodes.proofs.FrameLaws.{number-ids, first-ids, last-ids}
 use Rattle.flux_nodes.proofs.LaidLaws.{last_some, number_or, one_if-same, one_if-other, kept, first_within}
 use Rattle.flux_nodes.proofs.TableLaws.{laid-within, get-or-sum, spare-kept, spare-within, same_or_not}
-use Rattle.flux_nodes.proofs.MoveLaws.{below_or_not, none_past}
+use Rattle.flux_nodes.proofs.MoveLaws.{none_past}
+use Rattle.std.proofs.lemmas.Bool.{cases_lt}
 use Rattle.flux_nodes.proofs.SeenLaws.{seen, holds, some-term}
 use Rattle.flux_nodes.proofs.TableCalls.{table_of}
 use Rattle.flux_nodes.proofs.NumberLaws.{number-same, same_at, hits, hits-same, times-number, first-some, size-number}
@@ -85,7 +86,7 @@ hits-in j b (suc n) g l = elim (same_or_not j b) [
 ]
   where
     go : j ≢ b → suc b ≤ j
-    go d = elim (below_or_not b j) [ inl h ↦ omega arith | inr h ↦ absurd (d (omega arith)) ]
+    go d = elim (cases_lt b j) [ inl h ↦ omega arith | inr h ↦ absurd (d (omega arith)) ]
 
 hits-high : (j b n : ℕ) → b + n ≤ j → hits j (from b) n ≡ 0
 hits-high j b zero l = refl
@@ -186,7 +187,7 @@ added cs mid bs t e f g last m numbers v i a some len b =
       ];
       spare = spare-kept cs bs (drop (size v) m.spare) (λ k h. let l : k < length cs = spare-within cs (drop (size v) m.spare) k (spare-drop cs (size v) m.spare i.spare) h in apart k l (omega (arith, h, i.once k l, trees-free m v k (omega (arith, l, i.runs_length))))) (spare-drop cs (size v) m.spare i.spare);
       spare_is = a.free_is;
-      once = λ k l. elim (below_or_not k (length cs)) [
+      once = λ k l. elim (cases_lt k (length cs)) [
         | inl h ↦ omega (arith, i.once k h, sum_by-set (times k) (m.unlinked ++ copies (size v - length m.spare) nil) (supply m 0) (numbered m v) nil within, ap (times k) at, sum-padded (times k) refl m.unlinked (size v - length m.spare), trees-free m v k (omega (arith, h, i.runs_length)))
         | inr h ↦ omega (arith, none_past cs None None m.document None k i.doc.laid h, sum-past cs t e f m k i h, sum_by-set (times k) (m.unlinked ++ copies (size v - length m.spare) nil) (supply m 0) (numbered m v) nil within, ap (times k) at, sum-padded (times k) refl m.unlinked (size v - length m.spare), spare-past cs m.spare k i.spare h, times_in-cut k (size v) m.spare, trees-new m v k (omega (arith, h, i.runs_length)) (omega (arith, l, bs_long, i.runs_length)) (spare-past cs m.spare k i.spare h))
       ];
@@ -201,9 +202,9 @@ add-held cs bs t e f g made more m v i held len sum j =
     record { table = holds bs t e g (with_trees m v) j; made_is = is ∙ ap made_in (sym (seen bs t e g (with_trees m v) j)) }
 
 numbered-once : (cs : List Cell) (t e f : Option NodeId) (m : Meaning) (v : Plain) (k : ℕ) → IsTable cs t e f m → times k (numbered m v) ≤ 1
-numbered-once cs t e f m v k i = elim (below_or_not k (length cs)) [
+numbered-once cs t e f m v k i = elim (cases_lt k (length cs)) [
   | inl h ↦ omega (arith, i.once k h, trees-free m v k (omega (arith, h, i.runs_length)))
-  | inr h ↦ elim (below_or_not k (length m.unlinked + (size v - length m.spare))) [
+  | inr h ↦ elim (cases_lt k (length m.unlinked + (size v - length m.spare))) [
     | inl l ↦ omega (arith, trees-new m v k (omega (arith, h, i.runs_length)) l (spare-past cs m.spare k i.spare h))
     | inr g ↦ omega (arith, times-numbered m v k, hits-high k (length m.unlinked) (size v - length m.spare) g, times_in-cut k (size v) m.spare, spare-past cs m.spare k i.spare h)
   ]

@@ -1,5 +1,6 @@
 -- Nodes laid out from the last to the first.
 use Rattle.flux_nodes.specs.Tables.{times}
+use Rattle.flux_forest.proofs.ViewLaws.{size-zero}
 use Rattle.std.proofs.Common.{◌≡◌, ℕ, ◌+◌, ◌<◌, ◌≤◌, zero, suc, List, [], ◌∷◌, ◌++◌, length, take, drop, Option, None, refl, ap, ap₂, ◌∙◌, sym, subst, arith, length-append}
 use Rattle.std.specs.List.{slice_get}
 use Rattle.std.specs.Option.{IsSome}
@@ -74,11 +75,6 @@ pub record Building (old now : List Cell) (last : Option NodeId) (v : Plain) (nu
   pub others : (k : ℕ) → times k (number (rest_at (length left) v) (beyond (length left) (numbers_of numbers))) ≡ 0 → slice_get now k ≡ slice_get old k
   pub length_is : length now ≡ length old
 
-pub no-size : (h : Plain) → size h ≡ 0 → h ≡ nil
-no-size nil e = refl
-no-size (elem _ a c r) e = absurd (omega arith)
-no-size (leaf _ x r) e = absurd (omega arith)
-
 pub take-all : (ns : List Node) → take (length ns) ns ≡ ns
 take-all [] = refl
 take-all (n ∷ ns) = ap (λ ms. n ∷ ms) (take-all ns)
@@ -86,7 +82,7 @@ take-all (n ∷ ns) = ap (λ ms. n ∷ ms) (take-all ns)
 pub build-start : {cs : List Cell} {nodes : List Node} {numbers : List NodeId} → CanBuild cs nodes numbers → Building cs cs None (hedge_of nodes) numbers nodes
 build-start {cs} {nodes} {numbers} can =
     let len : length nodes ≡ size (hedge_of nodes) = sym (ap length can.flat) ∙ length-flat (hedge_of nodes) in
-    let empty : rest_at (length nodes) (hedge_of nodes) ≡ nil = no-size (rest_at (length nodes) (hedge_of nodes)) (omega (arith, len, size-rest (length nodes) (hedge_of nodes) (omega (arith, len)))) in
+    let empty : rest_at (length nodes) (hedge_of nodes) ≡ nil = size-zero (rest_at (length nodes) (hedge_of nodes)) (omega (arith, len, size-rest (length nodes) (hedge_of nodes) (omega (arith, len)))) in
     record {
       left_is = ap (take (length nodes)) can.flat ∙ take-all nodes;
       few = omega (arith, len);

@@ -1,5 +1,6 @@
 use Rattle.flux_nodes.specs.Tables.{one_if, times, times_in}
 use Rattle.std.proofs.Common.{◌≡◌, ◌≢◌, ◌⊎◌, inl, inr, ℕ, ◌+◌, ◌<◌, ◌≤◌, zero, suc, List, [], ◌∷◌, ◌++◌, length, Bool, true, false, cond, Option, Some, None, refl, ap, ◌∙◌, sym, subst, arith, append_assoc}
+use Rattle.flux_nodes.proofs.SeenLaws.{split2}
 use Rattle.std.proofs.Common.{length-append}
 use Rattle.std.proofs.lemmas.List.{append-nil}
 use Rattle.std.specs.List.{slice_get}
@@ -13,11 +14,6 @@ use Rattle.flux_nodes.specs.Laid.{id, first_id, last_id, elem_cell, leaf_cell, I
 use Rattle.flux_nodes.specs.Decoded.{is_kept}
 use Rattle.flux_nodes.specs.Kept.{free_cell, held, going_on, freed, IsWithin, IsSpare, spare_head}
 use Rattle.flux_nodes.proofs.LaidLaws.{one_if-same, one_if-is, edit-same, edit-other, first_id-join, first_id-any, last_some, last_within, number_or, times-join}
-
--- a cell that is not free, with these links to the next, the first and the last
-pub split2 : (x y : ℕ) → 0 < x + y → (0 < x) ⊎ (0 < y)
-split2 zero y h = inr (omega arith)
-split2 (suc x) y h = inl (omega arith)
 
 pub record Node (cs : List Cell) (m : ℕ) (w f b : Option NodeId) : Type 0 where
   pub cell : Cell

@@ -1,5 +1,6 @@
 use Rattle.flux_nodes.specs.Tables.{times}
-use Rattle.std.proofs.Common.{◌≡◌, ◌⊎◌, inl, inr, ℕ, ◌+◌, ◌<◌, ◌≤◌, zero, suc, List, length, Option, Some, None, refl, ap, ◌∙◌, sym, subst, arith}
+use Rattle.std.proofs.Common.{◌≡◌, inl, inr, ℕ, ◌+◌, ◌<◌, ◌≤◌, zero, suc, List, length, Option, Some, None, refl, ap, ◌∙◌, sym, subst, arith}
+use Rattle.std.proofs.lemmas.Bool.{cases_lt}
 use Rattle.std.specs.List.{slice_get}
 use Rattle.std.proofs.Math.ListN.{get_or}
 use Rattle.flux_trees.specs.Hedge.{Hedge, nil, join, size}
@@ -15,12 +16,6 @@ use Rattle.flux_nodes.proofs.SeatLaws.{IsAround, reseated, reseat, seat-split, s
 use Rattle.flux_nodes.proofs.TableLaws.{moved, laid-within, get-or-sum}
 use Rattle.flux_trees.proofs.HedgeLaws.{size-join}
 
-pub below_or_not : (k n : ℕ) → (k < n) ⊎ (n ≤ k)
-below_or_not k zero = inr (omega arith)
-below_or_not zero (suc n) = inl (omega arith)
-below_or_not (suc k) (suc n) =
-    elim (below_or_not k n) [ inl h ↦ inl (omega arith) | inr h ↦ inr (omega arith) ]
-
 pub none_past : (cs : List Cell) (p v : Option NodeId) (h : Hedge ℕ) (w : Option NodeId) (k : ℕ) → IsLaid cs p v h w → length cs ≤ k → times k h ≡ 0
 none_past cs p v h w k l past = go (times k h) refl
   where
@@ -31,7 +26,7 @@ none_past cs p v h w k l past = go (times k h) refl
 -- no number stands twice in the document and a run
 pub apart : (cs : List Cell) (t e f : Option NodeId) (m : Meaning) (a k : ℕ) → IsTable cs t e f m → times k m.document + times k (get_or m.unlinked a nil) ≤ 1
 apart cs t e f m a k i =
-    elim (below_or_not k (length cs)) [
+    elim (cases_lt k (length cs)) [
       | inl h ↦ omega (arith, i.once k h, get-or-sum (times k) nil refl m.unlinked a)
       | inr h ↦ omega (arith, none_past cs None None m.document None k i.doc.laid h, none_past cs None None (get_or m.unlinked a nil) None k (i.runs a).laid h)
     ]

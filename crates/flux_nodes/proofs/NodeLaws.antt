@@ -14,7 +14,7 @@ use Rattle.flux_nodes.specs.declared.cell.Cell.{Cell}
 use Rattle.flux_nodes.specs.declared.run.Run.{Run}
 use Rattle.flux_nodes.specs.Tables.{Meaning, number_of, first_or, AreEnds, RunAt, PlaceAt, NodeAt, ElementAt, IsKindOf, IsCellOf, IsUnlinked, IsNewRun, IsSound, trees_at, times, after_unlink, after_add, one_if}
 use Rattle.flux_nodes.proofs.LaidLaws.{first_within, one_if-is}
-use Rattle.flux_nodes.proofs.MoveLaws.{below_or_not}
+use Rattle.std.proofs.lemmas.Bool.{cases_lt}
 use Rattle.flux_nodes.proofs.SeatLaws.{times-seated}
 use Rattle.flux_nodes.proofs.FrameLaws.{seat_of, plug-seat, first-end}
 
@@ -61,7 +61,7 @@ pub taken-out : (m : Meaning) (run : Run) → IsSound m → (at : RunAt m.docume
 taken-out m run s at =
     let here : 0 < times run.first.0 at.trees = first_within at.trees run.first.0 (first-end run at.trees at.ends) in
     let in_document : 0 < times run.first.0 m.document = omega (arith, here, ap (times run.first.0) (at.forest_is ∙ plug-seat at.frames at.trees), times-seated run.first.0 (seat_of at.frames).above (seat_of at.frames).left at.trees (seat_of at.frames).right) in
-    let within : run.first.0 < length m.unlinked = elim (below_or_not run.first.0 (length m.unlinked)) [ inl l ↦ l | inr g ↦ absurd (omega (arith, in_document, s.none run.first.0 g)) ] in
+    let within : run.first.0 < length m.unlinked = elim (cases_lt run.first.0 (length m.unlinked)) [ inl l ↦ l | inr g ↦ absurd (omega (arith, in_document, s.none run.first.0 g)) ] in
     let is : trees_at (after_unlink m run at.frames at.trees) run ≡ at.trees = get_or-set_same m.unlinked run.first.0 at.trees nil within in
     subst (AreEnds run) (sym is) at.ends
 

@@ -2,7 +2,7 @@
 use Rattle.std.proofs.Common.{◌≡◌, ◌⊎◌, inl, inr, ℕ, ◌+◌, ◌<◌, ◌≤◌, suc, List, length, Option, Some, None, refl, ap, ◌∙◌, sym, subst, arith}
 use Rattle.std.specs.List.{slice_get, sum_by}
 use Rattle.std.proofs.Math.ListN.{get_or}
-use Rattle.std.proofs.Common.{[], ◌∷◌, Bool, false}
+use Rattle.std.proofs.Common.{[], ◌∷◌, false}
 use Rattle.std.specs.Bool.{IsTrue}
 use Rattle.std.proofs.lemmas.Option.{slice_get_within, slice_get-get_or}
 use Rattle.flux_atom.specs.declared.atom.Atom.{Atom}
@@ -252,6 +252,3 @@ neither {A} {B} n = (λ bad. absurd (falsehood bad), λ b. absurd (n b))
   where
     falsehood : IsTrue false → ⊥
     falsehood bad = cc
-
-pub not-true : {A : Type 0} (b : Bool) → b ≡ false → (A → IsTrue b) → A → ⊥
-not-true b e f x = let no : IsTrue false = subst IsTrue e (f x) in cc

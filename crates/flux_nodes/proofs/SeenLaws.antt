@@ -1,5 +1,6 @@
 -- What a table shows is what its cells hold.
 use Rattle.flux_nodes.specs.Tables.{one_if, times, times_in}
+use Rattle.std.proofs.Math.Bool.{and-false}
 use Rattle.std.proofs.Common.{◌≡◌, ◌⊎◌, inl, inr, ℕ, ◌+◌, ◌<◌, ◌≤◌, zero, suc, List, [], ◌∷◌, length, Bool, true, false, ◌&&◌, cond, Option, Some, None, refl, ap, ap₂, ◌∙◌, sym, subst, arith}
 use Rattle.std.proofs.lemmas.Bool.Decides.{nat_tests}
 use Rattle.std.specs.List.{slice_get, sum_by}
@@ -41,10 +42,6 @@ runs-seen all t i (c ∷ cs) [] n e = absurd (omega arith)
 runs-seen all t i (c ∷ cs) (h ∷ hs) n e =
     ap₂ (λ x xs. x ∷ xs) (subst (λ j. run_at all t j c ≡ h) (omega arith) (e 0 c refl)) (runs-seen all t (i + 1) cs hs (omega arith) (λ j d g. subst (λ q. run_at all t q d ≡ get_or hs j nil) (omega arith) (e (suc j) d g)))
 
-and-false : (p : Option NodeId) → (is_none p && false) ≡ false
-and-false None = refl
-and-false (Some m) = refl
-
 pub split2 : (x y : ℕ) → 0 < x + y → (0 < x) ⊎ (0 < y)
 split2 zero y h = inr (omega arith)
 split2 (suc x) y h = inl (omega arith)
@@ -57,11 +54,11 @@ pub not-alone : (cs : List Cell) (p v : Option NodeId) (h : Hedge ℕ) (w : Opti
 not-alone cs p v nil w k c l n t g = absurd (omega arith)
 not-alone cs p v (elem m a d r) w k c l n t g = elim (split2 (one_if k m) (times k d + times k r) t) [
   | inl x ↦ ap is_alone (one_cell c (elem_cell a p v (first_id r w) (first_id d None) (last_id d None)) (slice_get cs k) g (ap (slice_get cs) (one_if-is k m x) ∙ l.0)) ∙ n
-  | inr y ↦ elim (split2 (times k d) (times k r) y) [ inl x ↦ not-alone cs (Some (id m)) None d None k c l.1 refl x g | inr x ↦ not-alone cs p (Some (id m)) r w k c l.2 (and-false p) x g ]
+  | inr y ↦ elim (split2 (times k d) (times k r) y) [ inl x ↦ not-alone cs (Some (id m)) None d None k c l.1 refl x g | inr x ↦ not-alone cs p (Some (id m)) r w k c l.2 (and-false (is_none p)) x g ]
 ]
 not-alone cs p v (leaf m y r) w k c l n t g = elim (split2 (one_if k m) (times k r) t) [
   | inl x ↦ ap is_alone (one_cell c (leaf_cell y p v (first_id r w)) (slice_get cs k) g (ap (slice_get cs) (one_if-is k m x) ∙ l.0)) ∙ n
-  | inr x ↦ not-alone cs p (Some (id m)) r w k c l.1 (and-false p) x g
+  | inr x ↦ not-alone cs p (Some (id m)) r w k c l.1 (and-false (is_none p)) x g
 ]
 
 pub alone-first : (cs : List Cell) (h : Hedge ℕ) (k : ℕ) (c : Cell) → IsLaid cs None None h None → 0 < times k h → slice_get cs k ≡ Some c → is_alone c ≡ true → first_id h None ≡ Some (id k)
