@@ -12,9 +12,9 @@ use flux_editor::{Editor, Look, Mark};
 use flux_forest::{Forest, View};
 use std::alloc::{AllocError, Global};
 
-/// An editor of a document with nothing noted on its nodes. An insertion or a deletion takes as many
-/// steps as the document has nodes, since it keeps a copy of it to go back to; of a renaming it
-/// keeps the label alone.
+/// An editor of a document with nothing noted on its nodes. An insertion or a deletion takes as
+/// many steps as the document has nodes, since it keeps a copy of it to go back to; of a renaming
+/// it keeps the label alone.
 #[derive(Drop)]
 pub struct PlainEditor {
     // the document before each change since the last commit

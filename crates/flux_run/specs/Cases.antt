@@ -15,8 +15,8 @@ start = record { from = 0; to = 0 }
 abbrev pub inner : Span
 inner = record { from = 7; to = 14 }
 
--- whatever the forest, and however many calls are to go, the statement makes a forest of it or meets
--- a call too many
+-- whatever the forest, and however many calls are to go, the statement makes a forest of it or
+-- meets a call too many
 abbrev pub AlwaysRuns : Procs → Core → Type 0
 AlwaysRuns procs s = (d : ℕ) (v : Plain) → CanRun procs d [] v s
 

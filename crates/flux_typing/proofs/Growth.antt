@@ -38,9 +38,6 @@ body_at [] x h = absurd (omega (arith, h))
 body_at (d ∷ Δ) zero h = (d.body, refl)
 body_at (d ∷ Δ) (suc x) h = body_at Δ x (omega (arith, h))
 
-same_some : {t u : Ty} {o : Option Ty} → o ≡ Some t → o ≡ Some u → t ≡ u
-same_some e f = cc
-
 -- a member of a type whose names are known under the first definitions is one under them
 pub member_back : {Δ Δ' : Definitions} {v : Plain} {t : Ty} → Grows Δ Δ' → AreKnown Δ → IsKnown Δ t → Member Δ' v t → Member Δ v t
 member_back g a k in_empty = in_empty
@@ -54,7 +51,7 @@ member_back g a k (in_done t) = in_done t
 member_back g a k (in_more v w j m l) = in_more v w j (member_back g a k m) (member_back g a k l)
 member_back {Δ = Δ} g a k (in_name x {t = t} e m) =
     let b = body_at Δ x k in
-    let same : b.0 ≡ t = same_some (g.keeps x b.0 b.1) e in
+    let same : b.0 ≡ t = cc (g.keeps x b.0 b.1, e) in
     let f : body_of Δ x ≡ Some t = subst (λ u. body_of Δ x ≡ Some u) same b.1 in
     in_name x f (member_back g a (a x t f) m)
 
