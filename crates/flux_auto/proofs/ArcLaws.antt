@@ -1,5 +1,6 @@
 -- The index of the edges, and the profiles that it gives.
 use Rattle.std.proofs.Common.{◌≡◌, ◌⊎◌, ◌↔◌, ℕ, zero, suc, ◌+◌, ◌-◌, ◌<◌, ◌≤◌, List, [], ◌∷◌, ◌++◌, Bool, true, false, ◌||◌, ◌&&◌, ◌==◌, if◌then◌else◌, length, take, get_or, replicate, map, Some, slice_get, refl, sym, ap, ap₂, subst, ◌∙◌, arith, append_assoc, inl, inr, Vec}
+use Rattle.std.proofs.Math.Bool.{or-false, and-false}
 use Rattle.std.proofs.Math.ListN.{set}
 use Rattle.std.specs.List.{list_any}
 use Rattle.std.specs.Cmp.{both_ways}
@@ -389,21 +390,13 @@ or_true : (b : Bool) → b || true ≡ true
 or_true true = refl
 or_true false = refl
 
-or_false : (b : Bool) → b || false ≡ b
-or_false true = refl
-or_false false = refl
-
 and_true : (b : Bool) → b && true ≡ b
 and_true true = refl
 and_true false = refl
 
-and_false : (b : Bool) → b && false ≡ false
-and_false true = refl
-and_false false = refl
-
 one_mark : (before behind : List Bool) (b g : Bool) (s : ℕ) → length before ≡ s → (if g then set (before ++ b ∷ behind) s true else before ++ b ∷ behind) ≡ before ++ (b || g) ∷ behind
 one_mark before behind b true s e = set_at before b behind true s e ∙ ap (λ x. before ++ x ∷ behind) (sym (or_true b))
-one_mark before behind b false s e = ap (λ x. before ++ x ∷ behind) (sym (or_false b))
+one_mark before behind b false s e = ap (λ x. before ++ x ∷ behind) (sym (or-false b))
 
 -- ---- the empty forest
 
@@ -442,12 +435,12 @@ leaps_next q old new n xs i x lt e f = f ∙ ap (λ p. mark_by_leap q p l) e ∙
     one true h = ap (λ y. if y then told (λ s. has (fired n now q) s || in_block l.sources s) (length (fired n now q)) else fired n now q) h ∙ with_block-told (fires now q) n l.sources
         ∙ told_same (λ s. fires now q s || in_block l.sources s) (λ s. fires now q s || (in_block l.sources s && has q l.next)) n (λ s lt. ap (λ y. fires now q s || y) (sym (and_true (in_block l.sources s)) ∙ ap (λ y. in_block l.sources s && y) (sym h)))
     one false h = ap (λ y. if y then told (λ s. has (fired n now q) s || in_block l.sources s) (length (fired n now q)) else fired n now q) h
-        ∙ told_same (fires now q) (λ s. fires now q s || (in_block l.sources s && has q l.next)) n (λ s lt. sym (or_false (fires now q s)) ∙ ap (λ y. fires now q s || y) (sym (and_false (in_block l.sources s)) ∙ ap (λ y. in_block l.sources s && y) (sym h)))
+        ∙ told_same (fires now q) (λ s. fires now q s || (in_block l.sources s && has q l.next)) n (λ s lt. sym (or-false (fires now q s)) ∙ ap (λ y. fires now q s || y) (sym (and-false (in_block l.sources s)) ∙ ap (λ y. in_block l.sources s && y) (sym h)))
 
 -- a leap more that goes to no state of the set
 pub silent_more : (q : List Bool) (n : ℕ) (xs : List Leap) (i : ℕ) (x : Leap) → i < length xs → has q (get_or xs i x).next ≡ false → fired n (take (i + 1) xs) q ≡ fired n (take i xs) q
 silent_more q n xs i x lt off = told_same (fires (take (i + 1) xs) q) (fires (take i xs) q) n (λ s h.
-    list_any_more (λ (y : Leap). in_block y.sources s && has q y.next) xs i x lt ∙ ap (λ y. fires (take i xs) q s || y) (ap (λ y. in_block (get_or xs i x).sources s && y) off ∙ and_false (in_block (get_or xs i x).sources s)) ∙ or_false (fires (take i xs) q s))
+    list_any_more (λ (y : Leap). in_block y.sources s && has q y.next) xs i x lt ∙ ap (λ y. fires (take i xs) q s || y) (ap (λ y. in_block (get_or xs i x).sources s && y) off ∙ and-false (in_block (get_or xs i x).sources s)) ∙ or-false (fires (take i xs) q s))
 
 leaps_along-append : (p : List Bool) (xs ys : List Arc) → leaps_along p (xs ++ ys) ≡ leaps_along p xs ++ leaps_along p ys
 leaps_along-append p [] ys = refl

@@ -1,5 +1,6 @@
 -- Blocks of states, and sets with the states of one more.
 use Rattle.std.proofs.Common.{◌≡◌, ℕ, zero, suc, ◌+◌, ◌-◌, ◌*◌, ◌/◌, ◌%◌, ◌^◌, ◌<◌, ◌≤◌, ◌==◌, ◌&&◌, ◌||◌, List, length, get_or, Bool, true, false, refl, sym, ap, ap₂, subst, ◌∙◌, inl, inr, arith, min, max}
+use Rattle.std.proofs.Math.Bool.{or-false}
 use Rattle.std.specs.Prelude.{bit_and, bit_or}
 use Rattle.std.specs.Int.{bit_at}
 use Rattle.std.proofs.Math.ListN.{set}
@@ -25,10 +26,6 @@ or_digit (suc zero) (suc zero) h g = refl
 or_digit (suc (suc a)) b h g = absurd (omega (arith, h))
 or_digit a (suc (suc b)) h g = absurd (omega (arith, g))
 
-or_off : (b : Bool) → b || false ≡ b
-or_off true = refl
-or_off false = refl
-
 -- the words with more bits of one
 abbrev pub ored : List ℕ → ℕ → ℕ → List ℕ
 ored ws k x = set ws k (bit_or (get_or ws k 0) x)
@@ -44,7 +41,7 @@ flag-or ws k x s h = elim (eqb_tells (s / 64) k) [
       ∙ ap (λ d. d == 1) (bit_at_or (get_or ws k 0) x (s % 64)) ∙ or_digit (bit_at (get_or ws k 0) (s % 64)) (bit_at x (s % 64)) (bit_at-lt (get_or ws k 0) (s % 64)) (bit_at-lt x (s % 64))
       ∙ ap₂ (λ j b. (bit_at (get_or ws j 0) (s % 64) == 1) || (b && (bit_at x (s % 64) == 1))) (sym p.1) (sym p.0)
   | inr p ↦
-      ap (λ w. bit_at w (s % 64) == 1) (get_or-set_other ws k (s / 64) (bit_or (get_or ws k 0) x) 0 p.1) ∙ sym (or_off (flag ws s))
+      ap (λ w. bit_at w (s % 64) == 1) (get_or-set_other ws k (s / 64) (bit_or (get_or ws k 0) x) 0 p.1) ∙ sym (or-false (flag ws s))
       ∙ ap (λ b. flag ws s || (b && (bit_at x (s % 64) == 1))) (sym p.0)
 ]
 
@@ -166,7 +163,7 @@ last_is ws n w b p packed e at is =
 
 -- a block beyond the count has no states of the set
 pub none_is : (ws : List ℕ) (n : ℕ) (b : Block) (p : List Bool) → flags ws n ≡ p → n / 64 < b.number → p ≡ with_block p b
-none_is ws n b p e lt = sym e ∙ told_same (flag ws) (λ s. flag ws s || in_block b s) n (λ s l. sym (or_off (flag ws s)) ∙ ap (λ x. flag ws s || x) (sym (off s l))) ∙ sym (with_block-told (flag ws) n b) ∙ ap (λ q. with_block q b) e
+none_is ws n b p e lt = sym e ∙ told_same (flag ws) (λ s. flag ws s || in_block b s) n (λ s l. sym (or-false (flag ws s)) ∙ ap (λ x. flag ws s || x) (sym (off s l))) ∙ sym (with_block-told (flag ws) n b) ∙ ap (λ q. with_block q b) e
   where
     off : (s : ℕ) → s < n → in_block b s ≡ false
     off s l = elim (eqb_tells (s / 64) b.number) [

@@ -1,7 +1,10 @@
 -- Items of lists by their places.
-use Rattle.std.proofs.Common.{◌≡◌, ◌⊎◌, ℕ, zero, suc, ◌<◌, List, [], ◌∷◌, ◌++◌, length, Some, slice_get, get_or, refl, sym, ap, subst, ◌∙◌, inl, inr, arith}
+use Rattle.std.proofs.Common.{◌≡◌, ◌⊎◌, ℕ, zero, suc, ◌+◌, ◌<◌, ◌≤◌, Bool, false, List, [], ◌∷◌, ◌++◌, length, Option, None, Some, is_some, slice_get, get_or, refl, sym, ap, subst, ◌∙◌, inl, inr, arith, length-append, append_assoc}
 use Rattle.std.proofs.Math.ListN.{set}
+use Rattle.std.proofs.lemmas.List.{append-nil}
 use Rattle.std.proofs.lemmas.Option.{slice_get_within, slice_get-get_or}
+use Rattle.indexmap.specs.IndexMap.{IndexMap, get, insert_entry}
+use Rattle.indexmap.proofs.CallerLemmas.{insert_entry-new}
 use Rattle.flux_auto.specs.Going.{Has}
 
 pub get-append : {A : Type 0} (xs ys : List A) (i : ℕ) → i < length xs → slice_get (xs ++ ys) i ≡ slice_get xs i
@@ -77,3 +80,33 @@ pub set-same : {X : Type 0} (xs : List X) (i : ℕ) (x : X) → slice_get xs i �
 set-same [] i x e = refl
 set-same (y ∷ xs) zero x e = ap (λ z. z ∷ xs) (sym (some_is y x e))
 set-same (y ∷ xs) (suc i) x e = ap (λ l. y ∷ l) (set-same xs i x e)
+
+pub below_or_at : (i n : ℕ) → i < n + 1 → (i < n) ⊎ (i ≡ n)
+below_or_at zero zero h = inr refl
+below_or_at zero (suc n) h = inl (omega arith)
+below_or_at (suc i) zero h = absurd (omega arith)
+below_or_at (suc i) (suc n) h = elim (below_or_at i n (omega arith)) [ inl h ↦ inl (omega arith) | inr e ↦ inr (ap (λ k. suc k) e) ]
+
+-- a list that grows at its end
+pub grows-refl : {X : Type 0} (xs : List X) → (more : List X) × (xs ≡ xs ++ more)
+grows-refl xs = ([], sym (append-nil xs))
+
+pub grows-trans : {X : Type 0} (xs ys zs : List X) → (more : List X) × (ys ≡ xs ++ more) → (more : List X) × (zs ≡ ys ++ more) → (more : List X) × (zs ≡ xs ++ more)
+grows-trans xs ys zs (m, e) (n, f) = (m ++ n, f ∙ ap (λ l. l ++ n) e ∙ append_assoc xs m n)
+
+pub grows-length : {X : Type 0} (xs ys : List X) → (more : List X) × (ys ≡ xs ++ more) → length xs ≤ length ys
+grows-length xs ys (m, e) = omega (arith, ap length e, length-append xs m)
+
+pub grows-get : {X : Type 0} (xs ys : List X) (i : ℕ) → (more : List X) × (ys ≡ xs ++ more) → i < length xs → slice_get ys i ≡ slice_get xs i
+grows-get xs ys i (m, e) h = ap (λ l. slice_get l i) e ∙ get-append xs m i h
+
+pub grows-has : {X : Type 0} (xs ys : List X) (x : X) → (more : List X) × (ys ≡ xs ++ more) → Has xs x → Has ys x
+grows-has xs ys x (m, e) h = subst (λ l. Has l x) (sym e) (has-append xs m x h)
+
+-- an entry with a new key
+pub new_entry : {K V S : Type 0} (eq : K → K → Bool) (m : IndexMap K V S) (k : K) (v : V) (es : List (K × V)) → is_some (get eq m k) ≡ false → es ≡ insert_entry eq m.entries k v → es ≡ m.entries ++ (k, v) ∷ []
+new_entry {K} {V} eq m k v es off e = e ∙ insert_entry-new eq m k v (none (get eq m k) off)
+  where
+    none : (r : Option V) → is_some r ≡ false → r ≡ None
+    none None h = refl
+    none (Some x) h = cc

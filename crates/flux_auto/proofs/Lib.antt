@@ -21,3 +21,4 @@ pub mod PartLaws
 pub mod Recipes
 pub mod Building
 pub mod TakeLaws
+pub mod TwoTypes

@@ -61,7 +61,8 @@ AreListed a = (n : ℕ) → (arcs_at a.by_label.items n ≡ []) ⊎ Has a.labels
 abbrev pub Leaves : ℕ → List Edge → ℕ → Edge → Type 0
 Leaves s edges t e = (t ≡ s) × Has edges e
 
--- the edges of the state s were added, each at its label, at any label or at its kind, and no others
+-- the edges of the state s were added, each at its label, at any label or at its kind, and no
+-- others
 pub record Adds (old new : Arcs) (s : ℕ) (edges : List Edge) : Type 0 where
   pub arcs : (n t c r : ℕ) → HasArc (arcs_at new.by_label.items n) t c r
       ↔ (HasArc (arcs_at old.by_label.items n) t c r ⊎ Leaves s edges t (Elem n c r))

@@ -10,8 +10,8 @@ use flux_atom::AtomKind;
 use flux_types::{Ty, copy_of};
 use std::alloc::{AllocError, Global};
 
-// Whether two types are the same tree.
-pub(crate) fn is_same(left: &Ty, right: &Ty) -> bool
+/// Whether two types are the same tree.
+pub fn is_same(left: &Ty, right: &Ty) -> bool
     ensures { result ≡ same (ty_of left.now) (ty_of right.now) }
 {
     match (left, right) {

@@ -23,6 +23,7 @@ mod worklist;
 pub use arcs::{Arcs, Leap};
 pub use auto::{Auto, Start};
 pub use block::Block;
+pub use content::is_same;
 pub use edge::Edge;
 pub use part::Part;
 pub use recipe::{Recipe, build};

@@ -16,7 +16,7 @@ use Rattle.flux_auto.specs.Going.{Has, HasEdge, HasElement}
 use Rattle.flux_goals.specs.Goals.{NoneTakes, AllBelow, ByAtom, ByElement, AreBy, AreRests, AreWays}
 use Rattle.flux_goals.specs.Table.{AddsBy, AddsEdge, AddsState, AreInside}
 use Rattle.flux_goals.proofs.GoalLaws.{edge_element}
-use Rattle.flux_goals.proofs.Places.{some_is, below_or_at, has-none, has-push, has-append, has-last}
+use Rattle.flux_auto.proofs.Items.{some_is, below_or_at, has-none, has-push, has-append, has-last}
 
 -- the number that was read
 pub read_at : (xs : List ℕ) (i d : ℕ) → i < length xs → slice_get xs i ≡ Some (slice_index_or xs i d)

@@ -1,19 +1,15 @@
 -- What a decided goal says of types.
-use Rattle.std.proofs.Common.{◌≡◌, ◌⊎◌, ◌↔◌, ℕ, zero, suc, ◌+◌, ◌<◌, ◌≤◌, List, [], ◌∷◌, ◌++◌, length, ◌&&◌, Bool, true, false, Some, IfSome, All, Contains, slice_get, map, refl, sym, ap, ap₂, subst, ◌∙◌, inl, inr, arith}
+use Rattle.std.proofs.Common.{◌≡◌, ◌↔◌, ℕ, zero, suc, ◌+◌, ◌<◌, ◌≤◌, List, [], ◌∷◌, ◌++◌, length, ◌&&◌, Bool, true, false, Some, IfSome, All, Contains, slice_get, map, refl, sym, ap, ap₂, subst, ◌∙◌, inl, inr, arith}
 use Rattle.std.proofs.lemmas.Option.{slice_get_within}
-use Rattle.std.proofs.lemmas.Bool.{eq-eqb}
 use Rattle.std.proofs.lemmas.List.Elements.{All-push}
 use Rattle.flux_trees.specs.Hedge.{Plain}
 use Rattle.flux_trees.specs.Draft.{Draft, done}
 use Rattle.flux_trees.specs.Each.{EachLabel}
-use Rattle.flux_trees.proofs.EachLaws.{EachLabel-more}
-use Rattle.flux_schema.specs.Ty.{Ty, empty, atom, element, any_element, seq, alt, star, named}
+use Rattle.flux_schema.specs.Ty.{Ty}
 use Rattle.flux_schema.specs.Tidy.{same}
 use Rattle.flux_schema.specs.Definitions.{Definitions, IsKnown}
 use Rattle.flux_schema.specs.Member.{Member, Included}
-use Rattle.flux_schema.specs.Labels.{Lacks, BodiesLack, IsGiven, IsLabelledBy}
-use Rattle.flux_schema.proofs.LabelLaws.{each_label}
-use Rattle.flux_schema.proofs.SameLaws.{same-eq, same_kind-same}
+use Rattle.flux_schema.proofs.SameLaws.{same-eq}
 use Rattle.flux_types.specs.Read.{ty_of}
 use Rattle.flux_types.specs.Verdicts.{TypePair, IsEvidence}
 use Rattle.flux_auto.specs.declared.recipe.Recipe.{Recipe}
@@ -21,51 +17,17 @@ use Rattle.flux_auto.specs.Takes.{State, takes}
 use Rattle.flux_auto.specs.Automaton.{Automaton, TakesMembers, EdgesGiven}
 use Rattle.flux_auto.specs.Witness.{IsShownBy, IsLabelled}
 use Rattle.flux_auto.specs.declared.recipe.Recipe.TheVariants.{Elem}
+use Rattle.flux_auto.proofs.Contents.{same-refl}
 use Rattle.flux_auto.proofs.Recipes.{forests_labelled}
+use Rattle.flux_auto.proofs.TwoTypes.{labelled_by, first_takes, second_takes}
 use Rattle.flux_goals.specs.declared.pairs.Pair.{Pair}
 use Rattle.flux_goals.specs.declared.table.Table.{Table}
-use Rattle.flux_auto.specs.Going.{Has, LacksEdge}
+use Rattle.flux_auto.specs.Going.{Has}
 use Rattle.flux_goals.specs.Goals.{Shows, Holds, AllBelow}
 use Rattle.flux_goals.specs.Table.{IsRight, shown_at}
 use Rattle.flux_goals.specs.Known.{pair_of, IsIncludedPair}
-use Rattle.flux_goals.proofs.Places.{some_is, below_or_at, has-nil, has-push}
+use Rattle.flux_auto.proofs.Items.{some_is, below_or_at, has-nil, has-push}
 use Rattle.flux_goals.proofs.GoalLaws.{both_values}
-
--- one of two
-one_of : (t u x : Ty) → Contains (t ∷ u ∷ []) x → (t ≡ x) ⊎ (u ≡ x)
-one_of t u x (zero, lt, e) = inl e
-one_of t u x (suc zero, lt, e) = inr e
-one_of t u x (suc (suc k), lt, e) = absurd (omega (arith, lt))
-
--- no edge is by an element with a label that neither the definitions nor the types name
-pub lacks_edge : (a : Automaton) (t u : Ty) (other : ℕ) → EdgesGiven a → a.types ≡ t ∷ u ∷ [] → BodiesLack other a.definitions → Lacks other t → Lacks other u → LacksEdge a.states other
-lacks_edge a t u other given types bodies left right s c r (state, at, (i, is)) = by (given s state at i other c r is)
-  where
-    by : IsGiven a.definitions a.types other → ⊥
-    by (inl (x, body, get, l)) = each_label (λ m. m ≡ other → ⊥) other body (bodies x body get) l refl
-    by (inr (x, there, l)) = elim (one_of t u x (subst (λ ts. Contains ts x) types there)) [
-      | inl e ↦ each_label (λ m. m ≡ other → ⊥) other x (subst (Lacks other) e left) l refl
-      | inr e ↦ each_label (λ m. m ≡ other → ⊥) other x (subst (Lacks other) e right) l refl
-    ]
-
--- the labels of edges are given
-pub labelled_by : (a : Automaton) (defs : Definitions) (t u : Ty) (other : ℕ) (v : Plain) → EdgesGiven a → a.types ≡ t ∷ u ∷ [] → a.definitions ≡ defs → EachLabel (IsShownBy a.states other) v → IsLabelledBy defs other (t ∷ u ∷ []) v
-labelled_by a defs t u other v given types same each =
-    EachLabel-more (IsShownBy a.states other) (λ n. (n ≡ other) ⊎ IsGiven defs (t ∷ u ∷ []) n)
-    (λ n h. elim h [
-      | inl e ↦ inl e
-      | inr (s, state, at, i, c, r, is) ↦ inr (subst (λ ts. IsGiven defs ts n) types (subst (λ ds. IsGiven ds a.types n) same (given s state at i n c r is)))
-    ]) v each
-
-pub two_types : (ts us vs : List Ty) (t u : Ty) → ts ≡ [] → us ≡ ts ++ t ∷ [] → vs ≡ us ++ u ∷ [] → vs ≡ t ∷ u ∷ []
-two_types ts us vs t u e f g = g ∙ ap (λ l. l ++ u ∷ []) (f ∙ ap (λ l. l ++ t ∷ []) e)
-
--- what states take of two types
-first_takes : (a : Automaton) (t u : Ty) (i s : ℕ) → a.types ≡ t ∷ u ∷ [] → i ≡ 0 → IfSome (slice_get a.types i) (TakesMembers a s) → TakesMembers a s t
-first_takes a t u i s types e f = subst (λ j. IfSome (slice_get (t ∷ u ∷ []) j) (TakesMembers a s)) e (subst (λ ts. IfSome (slice_get ts i) (TakesMembers a s)) types f)
-
-second_takes : (a : Automaton) (t u : Ty) (i s : ℕ) → a.types ≡ t ∷ u ∷ [] → i ≡ 1 → IfSome (slice_get a.types i) (TakesMembers a s) → TakesMembers a s u
-second_takes a t u i s types e f = subst (λ j. IfSome (slice_get (t ∷ u ∷ []) j) (TakesMembers a s)) e (subst (λ ts. IfSome (slice_get ts i) (TakesMembers a s)) types f)
 
 -- ---- a table at first
 
@@ -155,26 +117,16 @@ not_known ps n q before le h =
 two : {a b : Bool} → a ≡ true → b ≡ true → a && b ≡ true
 two e f = ap₂ (λ a b. a && b) e f
 
-same_itself : (t : Ty) → same t t ≡ true
-same_itself empty = refl
-same_itself (atom k) = same_kind-same k
-same_itself (element n t) = two (eq-eqb n n refl) (same_itself t)
-same_itself (any_element t) = same_itself t
-same_itself (seq t u) = two (same_itself t) (same_itself u)
-same_itself (alt t u) = two (same_itself t) (same_itself u)
-same_itself (star t) = same_itself t
-same_itself (named x) = eq-eqb x x refl
-
 pub pair_same : (p : Pair) (t u : Ty) (b : Bool) → b ≡ same (ty_of p.right) u → same (ty_of p.left) t ≡ true → (b ≡ true) ↔ (pair_of p ≡ (t, u))
 pair_same p t u b is first = (
   (λ e. ap₂ (λ (x y : Ty). (x, y)) (same-eq (ty_of p.left) t first) (same-eq (ty_of p.right) u (sym is ∙ e))),
-  (λ e. is ∙ subst (λ y. same (ty_of p.right) y ≡ true) (ap (λ (q : TypePair). q.1) e) (same_itself (ty_of p.right))),
+  (λ e. is ∙ subst (λ y. same (ty_of p.right) y ≡ true) (ap (λ (q : TypePair). q.1) e) (same-refl (ty_of p.right))),
 )
 
 pub pair_differs : (p : Pair) (t u : Ty) (b : Bool) → b ≡ same (ty_of p.left) t → b ≡ false → (b ≡ true) ↔ (pair_of p ≡ (t, u))
 pair_differs p t u b is off = (
   (λ e. absurd (both_values b e off)),
-  (λ e. is ∙ subst (λ y. same (ty_of p.left) y ≡ true) (ap (λ (q : TypePair). q.0) e) (same_itself (ty_of p.left))),
+  (λ e. is ∙ subst (λ y. same (ty_of p.left) y ≡ true) (ap (λ (q : TypePair). q.0) e) (same-refl (ty_of p.left))),
 )
 
 pub included_more : (defs : Definitions) (ps qs : List TypePair) (t u : Ty) → All (IsIncludedPair defs) ps → IsKnown defs t → IsKnown defs u → Included defs t u → qs ≡ ps ++ (t, u) ∷ [] → All (IsIncludedPair defs) qs

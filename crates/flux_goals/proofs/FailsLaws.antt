@@ -9,7 +9,7 @@ use Rattle.flux_auto.specs.Automaton.{EdgesInside}
 use Rattle.flux_auto.specs.Going.{Has}
 use Rattle.flux_goals.specs.Goals.{Shows, NoneTakes}
 use Rattle.flux_goals.specs.Fails.{Fails, by_nothing, by_atom, by_element, Reach, PartAll, FailsWhereShown}
-use Rattle.flux_goals.proofs.Places.{below_or_at}
+use Rattle.flux_auto.proofs.Items.{below_or_at}
 use Rattle.flux_auto.proofs.GoingLaws.{takes_goes, goes_takes}
 use Rattle.flux_goals.proofs.GoalLaws.{not_taken, both_values}
 use Rattle.flux_goals.proofs.AfterLaws.{edge_below, element_below}

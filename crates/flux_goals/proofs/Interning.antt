@@ -1,15 +1,13 @@
 -- Goals that are found by hash, and new ones.
-use Rattle.std.proofs.Common.{◌≡◌, ℕ, List, [], ◌∷◌, ◌++◌, length, map, Bool, true, false, Option, Some, None, is_some, slice_get, refl, sym, ap, ◌∙◌, rules, arith}
+use Rattle.std.proofs.Common.{◌≡◌, ℕ, List, [], ◌∷◌, ◌++◌, length, map, true, false, Option, Some, None, is_some, slice_get, refl, sym, ap, ◌∙◌, rules, arith}
 use Rattle.std.specs.List.{position}
 use Rattle.std.proofs.lemmas.List.Quantifiers.{position-Some}
 use Rattle.std.proofs.lemmas.Option.{get_or_from_slice_get}
-use Rattle.indexmap.specs.IndexMap.{IndexMap, get, insert_entry}
-use Rattle.indexmap.proofs.CallerLemmas.{insert_entry-new}
-use Rattle.flux_auto.proofs.Meaning.{get-map, length-map}
+use Rattle.flux_auto.proofs.Meaning.{get-map, length-map, got}
 use Rattle.flux_goals.specs.declared.goal.Goal.{Goal}
 use Rattle.flux_goals.specs.contracts.goal.GoalPartialEq.TheImpl.{eq-value}
 use Rattle.flux_goals.specs.Table.{Entry, IsAt}
-use Rattle.flux_goals.proofs.Places.{there, get-end}
+use Rattle.flux_auto.proofs.Items.{get-end}
 
 same_goal : (x y : Goal) → eq-value.it x y ≡ true → (x.left ≡ y.left) × (x.right.items ≡ y.right.items)
 same_goal x y h = search rules
@@ -18,18 +16,10 @@ same_goal x y h = search rules
 pub at_position : (es : List Entry) (g : Goal) (i : ℕ) → position (eq-value.it g) (map (λ (e : Entry). e.0) es) ≡ Some i → IsAt es i g.left g.right.items
 at_position es g i e =
     let p = position-Some (eq-value.it g) (map (λ (e : Entry). e.0) es) i g e in
-    let x = there es i (omega (arith, p.0, length-map (λ (e : Entry). e.0) es)) in
+    let x = got es i (omega (arith, p.0, length-map (λ (e : Entry). e.0) es)) in
     let is = get_or_from_slice_get (map (λ (e : Entry). e.0) es) i x.0.0 g (get-map (λ (e : Entry). e.0) es i x.0 x.1) in
     let same = same_goal g x.0.0 (ap (eq-value.it g) (sym is) ∙ p.1) in
     (x.0, x.1, sym same.0, sym same.1)
-
--- an entry with a new key
-pub new_entry : {K V S : Type 0} (eq : K → K → Bool) (m : IndexMap K V S) (k : K) (v : V) (es : List (K × V)) → is_some (get eq m k) ≡ false → es ≡ insert_entry eq m.entries k v → es ≡ m.entries ++ (k, v) ∷ []
-new_entry {K} {V} eq m k v es off e = e ∙ insert_entry-new eq m k v (none (get eq m k) off)
-  where
-    none : (r : Option V) → is_some r ≡ false → r ≡ None
-    none None h = refl
-    none (Some x) h = cc
 
 pub not_some : {X : Type 0} (r : Option X) → ((x : X) → r ≡ Some x → ⊥) → is_some r ≡ false
 not_some None no_some = refl

@@ -9,7 +9,7 @@ use Rattle.flux_goals.specs.declared.part.Parting.{Parting}
 use Rattle.flux_auto.specs.Going.{Has}
 use Rattle.flux_goals.specs.Goals.{AllBelow}
 use Rattle.flux_goals.specs.Table.{Entry, AddsState, PartsBelow, Leaves, Reaches, TakeAll, Blocked, Fine, Quiet, IsPart, AreBothAsked, IsParting, Fits, SomeFits, AreInside, Branches, partings, work_of, work}
-use Rattle.flux_goals.proofs.Places.{some_is, below_or_at, has-push, has-append, has-last, has-nil}
+use Rattle.flux_auto.proofs.Items.{some_is, below_or_at, has-push, has-append, has-last, has-nil}
 use Rattle.flux_goals.proofs.TableLaws.{blocked_quiet}
 
 -- ---- one way more

@@ -19,7 +19,7 @@ use Rattle.flux_goals.specs.declared.table.Table.{Table}
 use Rattle.flux_auto.specs.Going.{HasEdge, HasElement, LacksEdge}
 use Rattle.flux_goals.specs.Goals.{NoneTakes, Shows, Holds, AllBelow, AreRests, AreWays}
 use Rattle.flux_goals.specs.Table.{Entry, EdgeStands, ElementStands, Stands, Quiet, Asks, Searches, Grows, IsAsked, IsElementTried, IsFound, IsFoundAt, IsTried, AreTried, IsLooked, IsTable, IsRight, IsVisited, IsDriven, IsMore, IsRound, IsDone, Settled, StandFrom, IsAt, FoundAt, IsDecided, shown_at}
-use Rattle.flux_goals.proofs.Places.{some_is, below_or_at, grows-refl, grows-get}
+use Rattle.flux_auto.proofs.Items.{some_is, below_or_at, grows-refl, grows-get}
 use Rattle.flux_goals.proofs.GoalLaws.{shows_leaf, shows_elem}
 use Rattle.flux_goals.proofs.AfterLaws.{edge_has}
 use Rattle.flux_goals.proofs.TableLaws.{edge_quiet, stands_quiet, right_searches}

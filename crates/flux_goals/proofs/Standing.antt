@@ -1,5 +1,6 @@
 -- Goals that rest on each other hold.
-use Rattle.std.proofs.Common.{◌≡◌, ◌⊎◌, ℕ, ◌<◌, ◌≤◌, List, length, true, false, refl, sym, subst, inl, inr, arith}
+use Rattle.std.proofs.Common.{◌≡◌, ◌⊎◌, ℕ, List, length, true, false, refl, sym, subst, inl, inr}
+use Rattle.std.proofs.lemmas.Bool.{cases_lt}
 use Rattle.std.proofs.lemmas.Option.{slice_get_within}
 use Rattle.flux_atom.specs.declared.atom.Atom.{Atom as Value}
 use Rattle.flux_atom.specs.Atom.{kind_of}
@@ -13,16 +14,13 @@ use Rattle.flux_goals.specs.Table.{Entry, Open, Fine, Reaches, ElementStands, St
 use Rattle.flux_auto.proofs.GoingLaws.{takes_goes, goes_takes}
 use Rattle.flux_goals.proofs.GoalLaws.{not_taken, both_values, edge_element}
 
-below_or_from : (i n : ℕ) → (i < n) ⊎ (n ≤ i)
-below_or_from i n = grind arith
-
 -- no forest that is v is against a goal of the table
 abbrev NotAgainst : List State → List Entry → Plain → Type 0
 NotAgainst a goals v = (s : ℕ) (S : List ℕ) → Fine a goals s S → Shows a s S v → ⊥
 
 open_stands : (a : List State) (other : ℕ) (goals : List Entry) (n s : ℕ) (S : List ℕ) → Settled a goals n → StandFrom a other goals n (length goals) → Open goals s S → Stands a other goals s S ⊎ Holds a s S
 open_stands a other goals n s S settled stand (g, (i, at), left, right, none) =
-    elim (below_or_from i n) [
+    elim (cases_lt i n) [
       | inl lt ↦ inr (subst (λ T. Holds a s T) right (subst (λ t. Holds a t g.0.right.items) left (settled i g lt at none)))
       | inr le ↦ inl (subst (λ T. Stands a other goals s T) right (subst (λ t. Stands a other goals t g.0.right.items) left (stand i g le (slice_get_within goals i g at) at none)))
     ]

@@ -13,7 +13,10 @@ use Rattle.flux_goals.specs.declared.goal.Way.{Way}
 use Rattle.flux_goals.specs.Goals.{Shows, Holds, AllBelow}
 use Rattle.flux_goals.specs.declared.table.Table.{Table}
 use Rattle.flux_goals.specs.Table.{Asks, Searches, IsRight, Entry, Open, Fine, Blocked, EdgeStands, Stands, shown_at, IsAgainst, IsTable, Settled, Quiet, Same, Grows, IsAt, IsAsked, IsFound, IsFoundAt, FoundAt}
-use Rattle.flux_goals.proofs.Places.{get-push, grows-refl, grows-trans, grows-length, grows-get, grows-has, some_is, same_or_not, value_here, value_elsewhere, there}
+use Rattle.flux_goals.proofs.Places.{value_here, value_elsewhere}
+use Rattle.flux_atom.proofs.Plain.{same_or_not}
+use Rattle.flux_auto.proofs.Meaning.{got}
+use Rattle.flux_auto.proofs.Items.{get-push, grows-refl, grows-trans, grows-length, grows-get, grows-has, some_is}
 
 -- ---- goals are added
 
@@ -72,7 +75,7 @@ grows_trans gs hs ks p q = record {
   long = (let l = p.long in let m = q.long in omega (arith, l, m));
   same = λ i g k at then.
       let in_gs : i < length gs = slice_get_within gs i g at in
-      let mid = there hs i (let l = p.long in omega (arith, l, in_gs)) in
+      let mid = got hs i (let l = p.long in omega (arith, l, in_gs)) in
       same_trans g mid.0 k (p.same i g mid.0 at mid.1) (q.same i mid.0 k mid.1 then);
 }
 
@@ -81,7 +84,7 @@ holds_same a g h s holds = subst (λ T. Holds a h.0.left T) (sym s.right) (subst
 
 pub settled_grows : (a : List State) (gs hs : List Entry) (n : ℕ) → n ≤ length gs → Grows gs hs → Settled a gs n → Settled a hs n
 settled_grows a gs hs n le p settled i h lt at none =
-    let g = there gs i (omega (arith, le, lt)) in
+    let g = got gs i (omega (arith, le, lt)) in
     let s = p.same i g.0 h g.1 at in
     holds_same a g.0 h s (settled i g.0 lt g.1 (s.none none))
 
@@ -119,7 +122,7 @@ table_mark a other gs shown at r table within found = record {
 }
   where
     g : (x : Entry) × (slice_get gs at ≡ Some x)
-    g = there gs at within
+    g = got gs at within
 
     is : IsFound a other shown g.0.0.left g.0.0.right.items r
     is = found g.0 g.1
@@ -168,7 +171,7 @@ at_within gs i s S (g, at, l, r) = slice_get_within gs i g at
 
 pub grown_at : (gs hs : List Entry) (i s : ℕ) (S : List ℕ) → Grows gs hs → IsAt gs i s S → IsAt hs i s S
 grown_at gs hs i s S p (g, at, l, r) =
-    let h = there hs i (let m = p.long in let k = slice_get_within gs i g at in omega (arith, m, k)) in
+    let h = got hs i (let m = p.long in let k = slice_get_within gs i g at in omega (arith, m, k)) in
     let e = p.same i g h.0 at h.1 in
     (h.0, h.1, e.left ∙ l, e.right ∙ r)
 

@@ -148,7 +148,8 @@ IsMore old new = length old.goals.entries + length old.shown.items
 
 -- the goal is at the place
 abbrev pub IsAt : List Entry → ℕ → ℕ → List ℕ → Type 0
-IsAt goals i s S = (g : Entry) × (slice_get goals i ≡ Some g) × (g.0.left ≡ s) × (g.0.right.items ≡ S)
+IsAt goals i s S =
+    (g : Entry) × (slice_get goals i ≡ Some g) × (g.0.left ≡ s) × (g.0.right.items ≡ S)
 
 -- ---- how lists of states and ways change
 
@@ -227,7 +228,8 @@ IsAsked a goals shown s S None = Fine a goals s S
 IsAsked a goals shown s S (Some m) = IsAgainst a shown s S m
 
 -- none: a goal of the parting holds or is open; else two forests are against them
-abbrev pub AreBothAsked : List State → List Entry → List Recipe → Element → Parting → Option (ℕ × ℕ) → Type 0
+abbrev pub AreBothAsked : List State → List Entry → List Recipe → Element → Parting →
+    Option (ℕ × ℕ) → Type 0
 AreBothAsked a goals shown e f None =
     Fine a goals e.content f.inner.items ⊎ Fine a goals e.rest f.outer.items
 AreBothAsked a goals shown e f (Some (m, n)) =
@@ -242,9 +244,10 @@ IsPart k a goals shown e (Some (m, n)) =
     (I : List ℕ) × (J : List ℕ) × Parts e.ways.items I J
     × IsAgainst a shown e.content I m × IsAgainst a shown e.rest J n
 
--- none: if there are no more than n goals, the element isn't against the goal; else the recipe is of
--- an element and of two forests that are against the goals of a parting
-abbrev pub IsElementTried : ℕ → List State → List Entry → List Recipe → Element → Option Recipe → Type 0
+-- none: if there are no more than n goals, the element isn't against the goal; else the recipe
+-- is of an element and of two forests that are against the goals of a parting
+abbrev pub IsElementTried : ℕ → List State → List Entry → List Recipe → Element →
+    Option Recipe → Type 0
 IsElementTried n a goals shown e None =
     length goals ≡ n → (p : ℕ → Bool) → Blocked a goals e.ways.items e.content e.rest p
 IsElementTried n a goals shown e (Some r) =
@@ -258,7 +261,8 @@ pub record IsFound (a : List State) (other : ℕ) (shown : List Recipe) (s : ℕ
   pub shows : Shows a s S (made (forests shown) r)
 
 -- none: the edge stands, if there are no more than n goals
-abbrev pub IsTried : ℕ → List State → ℕ → List Entry → List Recipe → ℕ → List ℕ → Edge → Option Recipe → Type 0
+abbrev pub IsTried : ℕ → List State → ℕ → List Entry → List Recipe → ℕ → List ℕ → Edge →
+    Option Recipe → Type 0
 IsTried n a other goals shown s S e None = length goals ≡ n → EdgeStands a other goals S e
 IsTried n a other goals shown s S e (Some r) = IsFound a other shown s S r
 

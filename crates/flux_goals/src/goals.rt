@@ -34,7 +34,8 @@ impl<'d> Model for Goals<'d> {
 
     ghost coded = { known_code };
 
-    ghost view = { λ g. record { definitions = g.defs.now; other = g.other; pairs = pairs_of g.pairs } };
+    ghost view = { λ g.
+        record { definitions = g.defs.now; other = g.other; pairs = pairs_of g.pairs } };
 
     ghost invariant = { λ g. IsKept g.defs.now g.other (pairs_of g.pairs) };
 }

@@ -1,9 +1,9 @@
 // The pairs of types that are known.
 ghost use Rattle.std.specs.Prelude.{◌≡◌, ◌↔◌, ◌++◌, ◌∷◌, [], map, IsTrue, OnOk, OnErr, Contains};
-ghost use Rattle.flux_schema.specs.Tidy.{same};
 ghost use Rattle.flux_types.specs.Read.{ty_of};
 ghost use Rattle.flux_goals.specs.Known.{pairs_of, pair_of};
 
+use flux_auto::is_same;
 use flux_types::{Ty, copy_of};
 use std::alloc::{AllocError, Global};
 
@@ -12,23 +12,6 @@ use std::alloc::{AllocError, Global};
 pub(crate) struct Pair {
     pub(crate) left: Ty,
     pub(crate) right: Ty,
-}
-
-// Whether two types are the same tree.
-fn is_same(left: &Ty, right: &Ty) -> bool
-    ensures { result ≡ same (ty_of left.now) (ty_of right.now) }
-{
-    match (left, right) {
-        (Ty::Empty, Ty::Empty) => true,
-        (Ty::Atom(k), Ty::Atom(l)) => k == l,
-        (Ty::Elem(n, t), Ty::Elem(m, u)) => n == m && is_same(t.get(), u.get()),
-        (Ty::AnyElem(t), Ty::AnyElem(u)) => is_same(t.get(), u.get()),
-        (Ty::Seq(t, u), Ty::Seq(v, w)) => is_same(t.get(), v.get()) && is_same(u.get(), w.get()),
-        (Ty::Alt(t, u), Ty::Alt(v, w)) => is_same(t.get(), v.get()) && is_same(u.get(), w.get()),
-        (Ty::Star(t), Ty::Star(u)) => is_same(t.get(), u.get()),
-        (Ty::Named(x), Ty::Named(y)) => x == y,
-        _ => false,
-    }
 }
 
 fn is_pair(pair: &Pair, left: &Ty, right: &Ty) -> bool

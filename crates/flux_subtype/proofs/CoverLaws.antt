@@ -1,5 +1,6 @@
 -- Where each kept profile is taken up, the profile of each forest is kept.
 use Rattle.std.proofs.Common.{◌≡◌, ℕ, zero, suc, ◌<◌, ◌≤◌, List, [], ◌∷◌, length, map, replicate, Bool, true, false, ◌||◌, ◌&&◌, ◌==◌, refl, sym, ap, ap₂, subst, ◌∙◌, inl, inr, arith}
+use Rattle.std.proofs.Math.Bool.{and-false}
 use Rattle.std.specs.List.{list_any}
 use Rattle.flux_atom.specs.declared.atom.AtomKind.{AtomKind}
 use Rattle.flux_atom.specs.Atom.{kind_of}
@@ -20,10 +21,6 @@ has-none zero s = refl
 has-none (suc n) zero = refl
 has-none (suc n) (suc s) = has-none n s
 
-and_off : (b : Bool) → b && false ≡ false
-and_off true = refl
-and_off false = refl
-
 any_off : (f : Edge → Bool) → ((e : Edge) → f e ≡ false) → (es : List Edge) → list_any f es ≡ false
 any_off f off [] = refl
 any_off f off (e ∷ es) = ap₂ (λ a b. a || b) (off e) (any_off f off es)
@@ -36,20 +33,20 @@ none_takes f off (s ∷ a) = ap₂ (λ b l. b ∷ l) (any_off f off s.edges) (no
 dead_content : (a : List State) (n : ℕ) (q : List Bool) → profile_element a n (dead a) q ≡ dead a
 dead_content a n q = none_takes (goes_by_element n (dead a) q) (elim [
   | Atom k r ↦ refl
-  | Elem m c r ↦ ap (λ b. (m == n) && (b && has q r)) (has-none (length a) c) ∙ and_off (m == n)
+  | Elem m c r ↦ ap (λ b. (m == n) && (b && has q r)) (has-none (length a) c) ∙ and-false (m == n)
   | AnyElem c r ↦ ap (λ b. b && has q r) (has-none (length a) c)
 ]) a
 
 dead_rest : (a : List State) (n : ℕ) (p : List Bool) → profile_element a n p (dead a) ≡ dead a
 dead_rest a n p = none_takes (goes_by_element n p (dead a)) (elim [
   | Atom k r ↦ refl
-  | Elem m c r ↦ ap (λ b. (m == n) && (has p c && b)) (has-none (length a) r) ∙ ap (λ b. (m == n) && b) (and_off (has p c)) ∙ and_off (m == n)
-  | AnyElem c r ↦ ap (λ b. has p c && b) (has-none (length a) r) ∙ and_off (has p c)
+  | Elem m c r ↦ ap (λ b. (m == n) && (has p c && b)) (has-none (length a) r) ∙ ap (λ b. (m == n) && b) (and-false (has p c)) ∙ and-false (m == n)
+  | AnyElem c r ↦ ap (λ b. has p c && b) (has-none (length a) r) ∙ and-false (has p c)
 ]) a
 
 dead_atom : (a : List State) (k : AtomKind) → profile_atom a k (dead a) ≡ dead a
 dead_atom a k = none_takes (goes_by_atom k (dead a)) (elim [
-  | Atom j r ↦ ap (λ b. same_kind j k && b) (has-none (length a) r) ∙ and_off (same_kind j k)
+  | Atom j r ↦ ap (λ b. same_kind j k && b) (has-none (length a) r) ∙ and-false (same_kind j k)
   | Elem m c r ↦ refl
   | AnyElem c r ↦ refl
 ]) a

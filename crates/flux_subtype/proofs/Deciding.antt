@@ -1,56 +1,13 @@
 -- What the automaton of two types answers for them.
-use Rattle.std.proofs.Common.{◌≡◌, ◌⊎◌, ℕ, zero, suc, true, false, List, [], ◌∷◌, ◌++◌, Option, Some, IfSome, slice_get, refl, sym, ap, subst, ◌∙◌, inl, inr, arith}
-use Rattle.std.specs.Prelude.{Contains}
-use Rattle.flux_trees.specs.Hedge.{Plain}
+use Rattle.std.proofs.Common.{◌≡◌, ℕ, true, false, [], ◌∷◌, Option, Some, IfSome, slice_get, sym, subst, ◌∙◌}
 use Rattle.flux_trees.specs.Draft.{Draft}
-use Rattle.flux_trees.specs.Each.{EachLabel}
-use Rattle.flux_trees.proofs.EachLaws.{EachLabel-more}
 use Rattle.flux_schema.specs.Ty.{Ty}
 use Rattle.flux_schema.specs.Definitions.{Definitions}
 use Rattle.flux_schema.specs.Member.{Member}
-use Rattle.flux_schema.specs.Labels.{Lacks, BodiesLack, IsGiven, IsLabelledBy}
-use Rattle.flux_schema.proofs.LabelLaws.{each_label}
 use Rattle.flux_types.specs.Verdicts.{IsEvidence}
 use Rattle.flux_auto.specs.Automaton.{Automaton, TakesMembers, EdgesGiven}
-use Rattle.flux_auto.specs.Witness.{IsShownBy}
-use Rattle.flux_auto.specs.Going.{LacksEdge}
+use Rattle.flux_auto.proofs.TwoTypes.{labelled_by, first_takes, second_takes}
 use Rattle.flux_subtype.specs.Search.{IsAnswer}
-
--- one of two
-one_of : (t u x : Ty) → Contains (t ∷ u ∷ []) x → (t ≡ x) ⊎ (u ≡ x)
-one_of t u x (zero, lt, e) = inl e
-one_of t u x (suc zero, lt, e) = inr e
-one_of t u x (suc (suc k), lt, e) = absurd (omega (arith, lt))
-
--- no edge is by an element with a label that neither the definitions nor the types name
-pub lacks_edge : (a : Automaton) (t u : Ty) (other : ℕ) → EdgesGiven a → a.types ≡ t ∷ u ∷ [] → BodiesLack other a.definitions → Lacks other t → Lacks other u → LacksEdge a.states other
-lacks_edge a t u other given types bodies left right s c r (state, at, (i, is)) = by (given s state at i other c r is)
-  where
-    by : IsGiven a.definitions a.types other → ⊥
-    by (inl (x, body, get, l)) = each_label (λ m. m ≡ other → ⊥) other body (bodies x body get) l refl
-    by (inr (x, there, l)) = elim (one_of t u x (subst (λ ts. Contains ts x) types there)) [
-      | inl e ↦ each_label (λ m. m ≡ other → ⊥) other x (subst (Lacks other) e left) l refl
-      | inr e ↦ each_label (λ m. m ≡ other → ⊥) other x (subst (Lacks other) e right) l refl
-    ]
-
--- the labels of edges are given
-pub labelled_by : (a : Automaton) (defs : Definitions) (t u : Ty) (other : ℕ) (v : Plain) → EdgesGiven a → a.types ≡ t ∷ u ∷ [] → a.definitions ≡ defs → EachLabel (IsShownBy a.states other) v → IsLabelledBy defs other (t ∷ u ∷ []) v
-labelled_by a defs t u other v given types same each =
-    EachLabel-more (IsShownBy a.states other) (λ n. (n ≡ other) ⊎ IsGiven defs (t ∷ u ∷ []) n)
-    (λ n h. elim h [
-      | inl e ↦ inl e
-      | inr (s, state, at, i, c, r, is) ↦ inr (subst (λ ts. IsGiven defs ts n) types (subst (λ ds. IsGiven ds a.types n) same (given s state at i n c r is)))
-    ]) v each
-
-pub two_types : (ts us vs : List Ty) (t u : Ty) → ts ≡ [] → us ≡ ts ++ t ∷ [] → vs ≡ us ++ u ∷ [] → vs ≡ t ∷ u ∷ []
-two_types ts us vs t u e f g = g ∙ ap (λ l. l ++ u ∷ []) (f ∙ ap (λ l. l ++ t ∷ []) e)
-
--- what states take of two types
-first_takes : (a : Automaton) (t u : Ty) (i s : ℕ) → a.types ≡ t ∷ u ∷ [] → i ≡ 0 → IfSome (slice_get a.types i) (TakesMembers a s) → TakesMembers a s t
-first_takes a t u i s types e f = subst (λ j. IfSome (slice_get (t ∷ u ∷ []) j) (TakesMembers a s)) e (subst (λ ts. IfSome (slice_get ts i) (TakesMembers a s)) types f)
-
-second_takes : (a : Automaton) (t u : Ty) (i s : ℕ) → a.types ≡ t ∷ u ∷ [] → i ≡ 1 → IfSome (slice_get a.types i) (TakesMembers a s) → TakesMembers a s u
-second_takes a t u i s types e f = subst (λ j. IfSome (slice_get (t ∷ u ∷ []) j) (TakesMembers a s)) e (subst (λ ts. IfSome (slice_get ts i) (TakesMembers a s)) types f)
 
 -- the forest that one state takes and the other doesn't
 pub evidence : (a : Automaton) (defs : Definitions) (other : ℕ) (t u : Ty) (i j s r : ℕ) (found : Option (Draft (Unit {0}))) (f : Draft (Unit {0})) → EdgesGiven a → a.types ≡ t ∷ u ∷ [] → a.definitions ≡ defs → i ≡ 0 → j ≡ 1

@@ -1,10 +1,8 @@
 -- What is kept stays kept, and forests stay what they are as more is kept.
-use Rattle.std.proofs.Common.{◌≡◌, ◌⊎◌, ℕ, suc, ◌<◌, List, [], ◌∷◌, ◌++◌, length, Bool, true, false, cond, is_some, Option, None, Some, slice_get, refl, sym, ap, ap₂, subst, ◌∙◌, rules, inl, inr, arith, length-append}
+use Rattle.std.proofs.Common.{◌≡◌, ◌⊎◌, ℕ, suc, ◌<◌, List, [], ◌∷◌, ◌++◌, length, Bool, true, false, cond, is_some, Some, slice_get, refl, sym, ap, ap₂, subst, ◌∙◌, rules, inl, inr, arith, length-append}
 use Rattle.std.specs.Map.{lookup}
 use Rattle.std.specs.Cmp.Lexicographic.{pointwise}
 use Rattle.std.proofs.lemmas.Bool.{and_parts}
-use Rattle.indexmap.specs.IndexMap.{IndexMap, get, insert_entry}
-use Rattle.indexmap.proofs.CallerLemmas.{insert_entry-new}
 use Rattle.std.proofs.lemmas.List.{length-map, map-append}
 use Rattle.std.proofs.lemmas.Option.{slice_get_within}
 use Rattle.flux_auto.specs.declared.arcs.Leap.{Leap}
@@ -12,11 +10,10 @@ use Rattle.flux_auto.specs.declared.recipe.Recipe.{Recipe}
 use Rattle.flux_auto.specs.contracts.arcs.LeapPartialEq.TheImpl.{eq-value}
 use Rattle.flux_auto.specs.Takes.{State, profile}
 use Rattle.flux_auto.specs.Witness.{made, forests, forest_at, IsOlder}
-use Rattle.flux_auto.proofs.Items.{get-append, get-end, get-push}
+use Rattle.flux_auto.proofs.Items.{get-append, get-end, get-push, below_or_at, grows-refl, grows-get}
 use Rattle.flux_auto.proofs.Meaning.{get-map, get_of-map}
 use Rattle.flux_auto.proofs.Recipes.{forest-grows, forest-last}
 use Rattle.flux_subtype.specs.Kept.{Kept, recipes, forest_of, set_of, set_at, AreKept, Grows, IsKept, Keeps}
-use Rattle.flux_subtype.proofs.Items.{below_or_at, grows-refl, grows-get}
 
 -- ---- forests
 
@@ -82,14 +79,6 @@ found_entry {K} {V} eq (e ∷ es) h = by (eq e.0) refl h (λ g. found_entry eq e
 
 pub found_kept : (ks : List Kept) (p : List Bool) (i : ℕ) (k : Kept) → slice_get ks i ≡ Some k → p ≡ k.0 → IsKept ks p
 found_kept ks p i k at e = (i, slice_get_within ks i k at, ap set_of at ∙ sym e)
-
--- an entry with a new key
-pub new_entry : {K V S : Type 0} (eq : K → K → Bool) (m : IndexMap K V S) (k : K) (v : V) (es : List (K × V)) → is_some (get eq m k) ≡ false → es ≡ insert_entry eq m.entries k v → es ≡ m.entries ++ (k, v) ∷ []
-new_entry {K} {V} eq m k v es off e = e ∙ insert_entry-new eq m k v (none (get eq m k) off)
-  where
-    none : (r : Option V) → is_some r ≡ false → r ≡ None
-    none None h = refl
-    none (Some x) h = cc
 
 same_leap : (x y : Leap) → eq-value.it x y ≡ true → x ≡ y
 same_leap x y h = search rules

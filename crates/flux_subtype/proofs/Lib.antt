@@ -1,4 +1,3 @@
-pub mod Items
 pub mod KeptLaws
 pub mod CoverLaws
 pub mod Turning

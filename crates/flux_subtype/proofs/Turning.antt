@@ -7,14 +7,13 @@ use Rattle.flux_auto.specs.Takes.{State, has, profile, profile_nil, profile_atom
 use Rattle.flux_auto.specs.Arcs.{IsIndex, arcs_at, leaps_along, leaps_by, fired}
 use Rattle.flux_auto.specs.Witness.{made, forests, IsOlder, IsShownBy}
 use Rattle.flux_auto.proofs.ArcLaws.{element_fires, index_label, silent_more}
-use Rattle.flux_auto.proofs.Items.{some_is, get-push, has-last, has-push}
+use Rattle.flux_auto.proofs.Items.{some_is, get-push, has-last, has-push, below_or_at, grows-refl, grows-trans, grows-length, grows-get, grows-has}
 use Rattle.flux_auto.proofs.Recipes.{kind_of-sample}
 use Rattle.flux_subtype.specs.declared.trees.Head.{Head}
 use Rattle.flux_subtype.specs.declared.trees.Head.TheVariants.{Atom, Elem}
 use Rattle.flux_auto.specs.Going.{Has, LacksEdge}
 use Rattle.flux_subtype.specs.Kept.{Kept, recipes, set_at, IsRecipeLabel, IsKeptLabel, AreKept, Grows, IsKept, Keeps}
 use Rattle.flux_subtype.specs.Search.{Tree, dead, ByElement, MovesBy, AreTrees, Stands, TreesGrow, AddsTree, IsHeadLabel, IsTreeLabel, IsUsed, IsElementOf, AddsElements, LabelsDone, Answered, AllAnswered, AnsweredBelow, recipe_of, Puts, Fills, FillsAll, IsDone, Turned}
-use Rattle.flux_subtype.proofs.Items.{below_or_at, grows-refl, grows-trans, grows-length, grows-get, grows-has}
 use Rattle.flux_subtype.proofs.KeptLaws.{grows-set_at, keeps_more}
 
 -- ---- a tree and a rest

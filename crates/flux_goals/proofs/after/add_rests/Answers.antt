@@ -1,7 +1,7 @@
 use Rattle.std.proofs.Common.{◌≡◌, length, arith, subst}
 use Rattle.flux_goals.specs.Goals.{ByAtom}
 use Rattle.flux_goals.specs.Table.{AddsBy}
-use Rattle.flux_goals.proofs.Places.{read_is}
+use Rattle.flux_auto.proofs.Items.{read_is}
 use Rattle.flux_goals.proofs.AfterLaws.{adds_more}
 use Rattle.flux_goals.proofs.after.add_rests.Goals as goal
 

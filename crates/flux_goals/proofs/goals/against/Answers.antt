@@ -3,7 +3,8 @@ use Rattle.flux_trees.specs.Draft.{done}
 use Rattle.flux_schema.specs.Labels.{BodiesLack}
 use Rattle.flux_types.specs.Read.{ty_of}
 use Rattle.flux_goals.specs.Table.{IsDecided, shown_at}
-use Rattle.flux_goals.proofs.AnswerLaws.{lacks_edge, two_types, holds_included, shown_evidence}
+use Rattle.flux_goals.proofs.AnswerLaws.{holds_included, shown_evidence}
+use Rattle.flux_auto.proofs.TwoTypes.{lacks_edge, two_types}
 use Rattle.flux_goals.proofs.goals.against.Goals as goal
 
 pub decide-requires-clause-lacks : goal.decide-requires-clause-lacks

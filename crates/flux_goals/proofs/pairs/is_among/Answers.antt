@@ -1,6 +1,6 @@
 use Rattle.std.proofs.Common.{refl}
 use Rattle.flux_types.specs.Read.{ty_of}
-use Rattle.flux_goals.proofs.Places.{read_is}
+use Rattle.flux_auto.proofs.Items.{read_is}
 use Rattle.flux_goals.proofs.GoalLaws.{both_values}
 use Rattle.flux_goals.proofs.AnswerLaws.{has_contains, none_known, not_known}
 use Rattle.flux_goals.proofs.pairs.is_among.Goals as goal

@@ -1,7 +1,7 @@
 use Rattle.std.proofs.Common.{◌≡◌, length, sym, subst, arith}
 use Rattle.flux_goals.specs.Goals.{AllBelow}
 use Rattle.flux_goals.specs.Table.{IsFound, IsTried, EdgeStands}
-use Rattle.flux_goals.proofs.Places.{read_is, grows-length}
+use Rattle.flux_auto.proofs.Items.{read_is, grows-length}
 use Rattle.flux_goals.proofs.AfterLaws.{edge_has}
 use Rattle.flux_goals.proofs.TableLaws.{asks_trans}
 use Rattle.flux_goals.proofs.SearchLaws.{stand_more, all_stand}

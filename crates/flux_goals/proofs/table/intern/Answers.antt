@@ -1,6 +1,7 @@
 use Rattle.std.proofs.Common.{◌∙◌, inr, sym}
 use Rattle.flux_goals.specs.contracts.goal.GoalPartialEq.TheImpl.{eq-value}
-use Rattle.flux_goals.proofs.Interning.{at_position, new_entry, not_some, added_at}
+use Rattle.flux_goals.proofs.Interning.{at_position, not_some, added_at}
+use Rattle.flux_auto.proofs.Items.{new_entry}
 use Rattle.flux_goals.proofs.table.intern.Goals as goal
 
 pub returns-in-Some-clause-there : goal.returns-in-Some-clause-there

@@ -2,7 +2,8 @@ use Rattle.std.proofs.Common.{◌∙◌, sym, refl, inl, inr}
 use Rattle.std.specs.Bool.{beq}
 use Rattle.std.specs.Cmp.Lexicographic.{pointwise}
 use Rattle.flux_auto.proofs.SetLaws.{same_set}
-use Rattle.flux_subtype.proofs.KeptLaws.{found_entry, found_kept, new_entry}
+use Rattle.flux_subtype.proofs.KeptLaws.{found_entry, found_kept}
+use Rattle.flux_auto.proofs.Items.{new_entry}
 use Rattle.flux_subtype.proofs.kept.keep.Goals as goal
 
 pub returns-then-contains_key : goal.returns-then-contains_key

@@ -1,5 +1,5 @@
 use Rattle.std.proofs.Common.{inl, inr, arith}
-use Rattle.flux_subtype.proofs.Items.{grows-length}
+use Rattle.flux_auto.proofs.Items.{grows-length}
 use Rattle.flux_subtype.proofs.Searching.{next_seen, answered_none}
 use Rattle.flux_subtype.proofs.search.saturate.Goals as goal
 

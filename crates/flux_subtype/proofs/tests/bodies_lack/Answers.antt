@@ -3,8 +3,7 @@ use Rattle.flux_schema.specs.Definitions.{body_of}
 use Rattle.flux_schema.specs.Labels.{Lacks}
 use Rattle.flux_schema.proofs.Ranks.{body_within}
 use Rattle.flux_types.specs.Read.{ty_of}
-use Rattle.flux_auto.proofs.Items.{some_is}
-use Rattle.flux_subtype.proofs.Items.{below_or_at}
+use Rattle.flux_auto.proofs.Items.{some_is, below_or_at}
 use Rattle.flux_subtype.proofs.tests.bodies_lack.Goals as goal
 
 pub loop-index-preserved : goal.loop-index-preserved

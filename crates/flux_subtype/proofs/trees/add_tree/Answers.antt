@@ -3,7 +3,8 @@ use Rattle.std.specs.declared.alloc.Global.{Global}
 use Rattle.std.specs.Cmp.Lexicographic.{pointwise}
 use Rattle.flux_auto.specs.declared.arcs.Leap.{Leap}
 use Rattle.flux_auto.specs.contracts.arcs.LeapPartialEq.TheImpl.{eq-value}
-use Rattle.flux_subtype.proofs.KeptLaws.{found_entry, new_entry, same_leaps}
+use Rattle.flux_subtype.proofs.KeptLaws.{found_entry, same_leaps}
+use Rattle.flux_auto.proofs.Items.{new_entry}
 use Rattle.flux_subtype.proofs.Turning.{adds_known, adds_new}
 use Rattle.flux_subtype.proofs.trees.add_tree.Goals as goal
 

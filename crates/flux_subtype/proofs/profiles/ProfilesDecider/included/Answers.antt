@@ -3,7 +3,8 @@ use Rattle.flux_schema.specs.Labels.{Lacks, BodiesLack}
 use Rattle.flux_types.specs.Read.{ty_of}
 use Rattle.flux_types.specs.Verdicts.{IsEvidence}
 use Rattle.flux_subtype.specs.Setting.{Setting}
-use Rattle.flux_subtype.proofs.Deciding.{lacks_edge, two_types, evidence}
+use Rattle.flux_subtype.proofs.Deciding.{evidence}
+use Rattle.flux_auto.proofs.TwoTypes.{lacks_edge, two_types}
 use Rattle.flux_subtype.proofs.profiles.ProfilesDecider.included.Goals as goal
 
 pub search-requires : goal.search-requires
